@@ -1,0 +1,9 @@
+pub mod Marks
+pub mod Enters
+pub mod Labels
+pub mod Steps
+pub mod Filling
+pub mod Linked
+pub mod Depth
+pub mod Turns
+pub mod Merged

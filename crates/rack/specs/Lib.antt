@@ -1,0 +1,5 @@
+pub mod Rank
+pub mod Way
+pub mod Refusals
+pub mod Hex
+pub mod First

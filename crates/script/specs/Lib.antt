@@ -1,0 +1,3 @@
+pub mod Script
+pub mod Combination
+pub mod Translate

@@ -1,0 +1,3 @@
+pub mod Records
+pub mod Gather
+pub mod Translation
