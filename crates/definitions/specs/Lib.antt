@@ -1,3 +1,4 @@
 pub mod Operands
 pub mod Combine
 pub mod Writing
+pub mod Sound

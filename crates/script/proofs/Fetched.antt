@@ -14,7 +14,8 @@ use Rattle.rack.specs.declared.refusal.Refusal.{Refusal}
 use Rattle.rack.specs.declared.refusal.Refusal.the-variants.{NoSuchDefinition}
 use Rattle.definitions.specs.declared.operand.Definition.{Definition}
 use Rattle.definitions.specs.Combine.{choose}
-use Rattle.script.specs.Script.{blank, fetched, knownNumber}
+use Rattle.definitions.specs.Sound.{blank}
+use Rattle.script.specs.Script.{fetched}
 
 pub fetches : (slots : List Definition) (count k : ℕ) → count ≤ length slots → 0 < k → k ≤ count → Ok (getD slots (k - 1) blank) ≡ fetched (take count slots) k
 fetches slots count k room some few =

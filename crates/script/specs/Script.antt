@@ -8,11 +8,11 @@ use Rattle.std.specs.declared.result.Result.{Result}
 use Rattle.std.specs.declared.result.Result.the-variants.{Ok, Err}
 use Rattle.rack.specs.declared.refusal.Refusal.{Refusal}
 use Rattle.rack.specs.declared.refusal.Refusal.the-variants.{NoSuchDefinition}
-use Rattle.definitions.specs.declared.operand.Operator.the-variants.{Meet}
 use Rattle.definitions.specs.declared.operand.Operand.{Operand}
 use Rattle.definitions.specs.declared.operand.Operand.the-variants.{Never, Always, Works, Out, Defined}
 use Rattle.definitions.specs.declared.operand.Definition.{Definition}
 use Rattle.definitions.specs.Combine.{choose}
+use Rattle.definitions.specs.Sound.{blank}
 use Rattle.script.specs.declared.script.Script.{Script}
 
 -- slots above the count are open
@@ -37,10 +37,6 @@ reach Always = 0
 reach (Works p) = 0
 reach (Out p) = 0
 reach (Defined k) = k .0
-
--- what a place past the end is read as
-abbrev pub blank : Definition
-blank = record { operator = Meet; first = Never; second = Never }
 
 abbrev pub fetched : List Definition → ℕ → Result Definition Refusal
 fetched ds k = choose (knownNumber (length ds) k) (Ok (getD ds (k - 1) blank)) (Err NoSuchDefinition)

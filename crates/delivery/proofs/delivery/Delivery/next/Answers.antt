@@ -2,7 +2,7 @@
 use mathlib.Core.Path.{refl, ap, _∙_}
 use lib.ListN.{getD}
 use borrow.Author.Needs.{needs}
-use Rattle.script.specs.Script.{blank}
+use Rattle.definitions.specs.Sound.{blank}
 use Rattle.delivery.specs.Lines.{definitionLine, over}
 use Rattle.delivery.proofs.delivery.Delivery.next.Needs as need
 

@@ -1,0 +1,2 @@
+//! Boolean algebras: what a script is evaluated over.
+pub mod boolean;
