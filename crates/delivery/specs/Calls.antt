@@ -26,15 +26,20 @@ bufferRefusal buffer = choose (ltb (length buffer) 17) (Some BufferShort) None
 abbrev pub beginRefusal : List Definition → Operand → List ℕ → Option Refusal
 beginRefusal ds x buffer = choose (known (length ds) x) (bufferRefusal buffer) (Some NoSuchDefinition)
 
--- the definitions of the script that it borrows
+-- of a delivery of x, so many sent
+abbrev pub nextRefusal : Operand → ℕ → List ℕ → Option Refusal
+nextRefusal x sent buffer = choose (ltb sent (reach x)) (bufferRefusal buffer) (Some OutOfTurn)
+
+abbrev pub closeRefusal : Operand → ℕ → List ℕ → Option Refusal
+closeRefusal x sent buffer = choose (ltb sent (reach x)) (Some OutOfTurn) (bufferRefusal buffer)
+
+-- the definition that comes next behind so many sent
+abbrev pub nextLine : List Definition → ℕ → List ℕ
+nextLine ds sent = definitionLine (getD ds sent blank)
+
+-- the definitions of the script that a delivery borrows
 abbrev pub sources : Delivery → List Definition
 sources d = definitionsOf (d .script .now)
-
-abbrev pub nextRefusal : Delivery → List ℕ → Option Refusal
-nextRefusal d buffer = choose (ltb (d .sent) (reach (d .operand))) (bufferRefusal buffer) (Some OutOfTurn)
-
-abbrev pub closeRefusal : Delivery → List ℕ → Option Refusal
-closeRefusal d buffer = choose (ltb (d .sent) (reach (d .operand))) (Some OutOfTurn) (bufferRefusal buffer)
 
 -- begin, where it is accepted
 pub record Opened (s : Script) (x : Operand) (was after : List ℕ) (d : Delivery) (n : ℕ) : Type 0 where
@@ -50,21 +55,21 @@ Begun s x was after r = Cases r (λ p. Opened s x was after (p .0) (p .1)) (λ e
 
 -- next, where it is accepted
 pub record Went (d e : Delivery) (was after : List ℕ) (n : ℕ) : Type 0 where
-  pub due : nextRefusal d was ≡ None
-  pub length-is : n ≡ length (definitionLine (getD (sources d) (d .sent) blank))
-  pub line : after ≡ over (definitionLine (getD (sources d) (d .sent) blank)) was
+  pub due : nextRefusal (d .operand) (d .sent) was ≡ None
+  pub length-is : n ≡ length (nextLine (sources d) (d .sent))
+  pub line : after ≡ over (nextLine (sources d) (d .sent)) was
   pub script-is : e .script .now ≡ d .script .now
   pub operand-is : e .operand ≡ d .operand
   pub one-more : e .sent ≡ d .sent + 1
 
 abbrev pub Sent : Delivery → Delivery → List ℕ → List ℕ → Result ℕ Refusal → Type 0
-Sent d e was after r = Cases r (Went d e was after) (λ f. (nextRefusal d was ≡ Some f) × (e ≡ d) × (after ≡ was))
+Sent d e was after r = Cases r (Went d e was after) (λ f. (nextRefusal (d .operand) (d .sent) was ≡ Some f) × (e ≡ d) × (after ≡ was))
 
 -- close, where it is accepted
 pub record Ended (d : Delivery) (was after : List ℕ) (n : ℕ) : Type 0 where
-  pub due : closeRefusal d was ≡ None
+  pub due : closeRefusal (d .operand) (d .sent) was ≡ None
   pub length-is : n ≡ length (endLine (d .operand))
   pub line : after ≡ over (endLine (d .operand)) was
 
 abbrev pub Closed : Delivery → List ℕ → List ℕ → Result ℕ (Refusal × Delivery) → Type 0
-Closed d was after r = Cases r (Ended d was after) (λ p. (closeRefusal d was ≡ Some (p .0)) × (p .1 ≡ d) × (after ≡ was))
+Closed d was after r = Cases r (Ended d was after) (λ p. (closeRefusal (d .operand) (d .sent) was ≡ Some (p .0)) × (p .1 ≡ d) × (after ≡ was))

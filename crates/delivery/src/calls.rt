@@ -76,7 +76,7 @@ impl<'a> Delivery<'a> {
 
     /// Why a close would be refused, if it would: where some are unsent (15), then a short buffer (14).
     pub fn close_refusal(&self, line: &[u8]) -> Option<Refusal>
-        ensures { λ r. ⌜ r ≡ closeRefusal (now (self .entry)) (now (line .entry)) ⌝ }
+        ensures { λ r. ⌜ r ≡ closeRefusal (now (self .entry) .operand) (now (self .entry) .sent) (now (line .entry)) ⌝ }
     {
         if self.unsent() > 0 {
             return Some(Refusal::OutOfTurn);

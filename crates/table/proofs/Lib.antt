@@ -1,2 +1,3 @@
-pub mod Cut
 pub mod KeptWays
+pub mod Tables
+pub mod Readings

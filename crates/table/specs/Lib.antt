@@ -1,4 +1,3 @@
-pub mod Lines
 pub mod Kept
-pub mod Digits
-pub mod Frames
+pub mod Reading
+pub mod Tables

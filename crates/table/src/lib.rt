@@ -1,7 +1,5 @@
-//! Tables: the lines of a text, the frames that they form, and the ways that a table holds and keeps.
-pub mod digits;
-pub mod frame;
+//! Tables: opened by a start line, filled way by way, closed by an end line; and which of its ways are kept.
+pub mod calls;
 pub mod kept;
-pub mod lines;
 pub mod read;
 pub mod table;

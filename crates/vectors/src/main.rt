@@ -7,8 +7,8 @@ use rack::way::WayRecord;
 use std::io;
 use std::io::Read;
 use std::io::Write;
-use table::digits::decode;
-use table::lines::Lines;
+use text::digits::decode;
+use text::lines::Lines;
 use working::record::WorkingRecord;
 
 /// More way records than a table can use, and more working records than a translation can need.

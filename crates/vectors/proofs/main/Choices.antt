@@ -1,6 +1,6 @@
 -- The lines that are left fall.
 use lib.ListN.{length}
-use Rattle.table.specs.Lines.{linesOf}
+use Rattle.text.specs.Lines.{linesOf}
 use Rattle.vectors.proofs.main.Given as given
 
 abbrev pub μ-loop-line : given.MeasureT-loop-line

@@ -1,0 +1,15 @@
+pub mod Lattices
+pub mod Values
+pub mod Pushed
+pub mod Weights
+pub mod Combined
+pub mod Ways
+pub mod Written
+pub mod Naively
+pub mod Decomposed
+pub mod Headed
+pub mod Merged
+pub mod Keeps
+pub mod Shown
+pub mod Soundly
+pub mod Readings

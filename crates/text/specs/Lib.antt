@@ -1,0 +1,4 @@
+pub mod Lines
+pub mod Digits
+pub mod Frames
+pub mod Seen
