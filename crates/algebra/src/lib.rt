@@ -1,2 +1,5 @@
 //! Boolean algebras: what a script is evaluated over.
 pub mod boolean;
+pub mod dual;
+pub mod one_state;
+pub mod sampled;

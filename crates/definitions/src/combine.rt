@@ -19,18 +19,12 @@ fn simple(operator: Operator, first: Operand, second: Operand) -> Option<Operand
     ensures { λ r. ⌜ r ≡ simply operator first second ⌝ }
 {
     match (operator, first, second) {
-        (Operator::Meet, Operand::Never, _) | (Operator::Meet, _, Operand::Never) => Some(
-            Operand::Never,
-        ),
-        (Operator::Meet, Operand::Always, other) | (Operator::Meet, other, Operand::Always) => Some(
-            other,
-        ),
-        (Operator::Join, Operand::Always, _) | (Operator::Join, _, Operand::Always) => Some(
-            Operand::Always,
-        ),
-        (Operator::Join, Operand::Never, other) | (Operator::Join, other, Operand::Never) => Some(
-            other,
-        ),
+        (Operator::Meet, Operand::Never, _) => Some(Operand::Never),
+        (Operator::Meet, _, Operand::Never) => Some(Operand::Never),
+        (Operator::Meet, Operand::Always, x) | (Operator::Meet, x, Operand::Always) => Some(x),
+        (Operator::Join, Operand::Always, _) => Some(Operand::Always),
+        (Operator::Join, _, Operand::Always) => Some(Operand::Always),
+        (Operator::Join, Operand::Never, x) | (Operator::Join, x, Operand::Never) => Some(x),
         (_, first, second) => { if first == second { Some(first) } else { None } }
     }
 }
@@ -70,17 +64,13 @@ pub fn combine(
 ) -> Result<Operand, LimitReached>
     ensures { λ r. ⌜ Wrote limit (now (slots .entry)) (now (count .entry)) (now (slots .exit)) (now (count .exit)) r (combining limit operator first second) ⌝ }
 {
-    match simple(operator, first, second) {
-        Some(operand) => Ok(operand),
-        None => define(
-            slots,
-            count,
-            limit,
-            Definition {
-                operator,
-                first,
-                second,
-            },
-        ),
+    if let Some(operand) = simple(operator, first, second) {
+        return Ok(operand);
     }
+    let definition = Definition {
+        operator,
+        first,
+        second,
+    };
+    define(slots, count, limit, definition)
 }

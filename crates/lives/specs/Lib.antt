@@ -1,0 +1,5 @@
+pub mod Ranges
+pub mod Moments
+pub mod Life
+pub mod Promise
+pub mod Example
