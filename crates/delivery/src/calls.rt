@@ -107,10 +107,11 @@ impl<'a> Delivery<'a> {
     pub fn strike(self) -> usize
         ensures { λ r. ⌜ r ≡ self .entry .sent ⌝ }
     {
+        let sent = self.sent;
         let Delivery {
             script: _,
             operand: _,
-            sent,
+            sent: _,
         } = self;
         sent
     }

@@ -1,5 +1,5 @@
 ghost use mathlib.Core.Path.{_≡_};
-ghost use Rattle.rack.specs.Rank.{rankOf, weightOf};
+ghost use Rattle.rack.specs.Rank.{rankOf, Apart, weightOf};
 use crate::part::Literal;
 use crate::part::Part;
 use crate::part::Sign;
@@ -275,7 +275,8 @@ pub struct Weight(pub u16);
 impl Part {
     /// The part's rank. Every rank is fetched here.
     pub fn rank(self) -> Rank
-        ensures { λ r. ⌜ r .0 ≡ rankOf (self .0) ⌝ }
+        ensures place { λ r. ⌜ r .0 ≡ rankOf (self .0) ⌝ }
+        ensures apart { λ _. ⌜ Apart rankOf ⌝ }
     {
         Rank(RANKS[self.0 as usize])
     }

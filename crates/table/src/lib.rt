@@ -3,3 +3,5 @@ pub mod calls;
 pub mod kept;
 pub mod read;
 pub mod table;
+#[cfg(test)]
+mod tests;
