@@ -1,3 +1,12 @@
+ghost use mathlib.Core.Path.{_≡_};
+ghost use mathlib.Core.Bool.{true};
+ghost use lib.ListN.{length};
+ghost use Rattle.std.specs.Of.Vec.{vec-items};
+ghost use Rattle.text.specs.Lines.{linesOf};
+ghost use Rattle.table.specs.Reading.{readLines};
+ghost use Rattle.script.specs.Script.{definitionsOf, known};
+ghost use Rattle.delivery.specs.Calls.{sources};
+ghost use Rattle.preprocess.specs.Answer.{refusalLine, behindStart, deliveryOf, answerTo, Adds};
 use definitions::operand::Operand;
 use delivery::delivery::Delivery;
 use methods::translate::Method;
@@ -14,7 +23,9 @@ use table::read::read;
 use working::record::WorkingRecord;
 
 /// The line that tells a refusal: `7F`, its number, and the line and column of its position, zeros for none.
-pub fn refusal_line(refusal: Refusal) -> [u8; 11] {
+pub fn refusal_line(refusal: Refusal) -> [u8; 11]
+    ensures { λ r. ⌜ r ≡ refusalLine refusal ⌝ }
+{
     let (line, column) = match refusal.position() {
         Some(
             Position {
@@ -31,14 +42,19 @@ pub fn refusal_line(refusal: Refusal) -> [u8; 11] {
 }
 
 /// Adds the line that tells a refusal.
-fn tell(refusal: Refusal, out: &mut Vec<u8>) -> Result<(), AllocError> {
+fn tell(refusal: Refusal, out: &mut Vec<u8>) -> Result<(), AllocError>
+    ensures { λ r. ⌜ Adds r (vec-items (now (out .entry))) (vec-items (now (out .exit))) (refusalLine refusal) ⌝ }
+{
     out.extend_from_slice(&refusal_line(refusal))
 }
 
 /// Adds the lines of an open delivery: its definitions and its end.
-fn send_all(mut delivery: Delivery<'_>, out: &mut Vec<u8>) -> Result<(), AllocError> {
+fn send_all(mut delivery: Delivery<'_>, out: &mut Vec<u8>) -> Result<(), AllocError>
+    requires { ⌜ delivery .sent ≡ 0 ⌝ }
+    ensures { λ r. ⌜ Adds r (vec-items (now (out .entry))) (vec-items (now (out .exit))) (behindStart (sources (delivery .entry)) (delivery .entry .operand)) ⌝ }
+{
     let mut line = [0u8; 17];
-    for _ in 0..delivery.unsent() {
+    for i in 0..delivery.unsent() {
         if let Ok(n) = delivery.next(&mut line) {
             if let Err(short) = out.extend_from_slice(&line[0..n]) {
                 let _ = delivery.strike();
@@ -56,7 +72,10 @@ fn send_all(mut delivery: Delivery<'_>, out: &mut Vec<u8>) -> Result<(), AllocEr
 }
 
 /// Adds the delivery of an operand.
-fn deliver(script: &Script, operand: Operand, out: &mut Vec<u8>) -> Result<(), AllocError> {
+fn deliver(script: &Script, operand: Operand, out: &mut Vec<u8>) -> Result<(), AllocError>
+    requires { ⌜ known (length (definitionsOf (now script))) operand ≡ true ⌝ }
+    ensures { λ r. ⌜ Adds r (vec-items (now (out .entry))) (vec-items (now (out .exit))) (deliveryOf (definitionsOf (now (script .entry))) operand) ⌝ }
+{
     let mut line = [0u8; 17];
     match Delivery::begin(script, operand, &mut line) {
         Ok((delivery, n)) => {
@@ -71,7 +90,7 @@ fn deliver(script: &Script, operand: Operand, out: &mut Vec<u8>) -> Result<(), A
 }
 
 /// Adds what a table's text comes to: the whole delivery of its translation by a method into a new script, or the line that tells the
-/// first refusal. Refuses nothing itself; it fails only for want of memory.
+/// first refusal. Refuses nothing itself; it fails only for want of memory. The records that it is lent are open after it.
 pub fn answer(
     text: &[u8],
     method: Method,
@@ -79,7 +98,9 @@ pub fn answer(
     records: &mut [WayRecord],
     work: &mut [WorkingRecord],
     out: &mut Vec<u8>,
-) -> Result<(), AllocError> {
+) -> Result<(), AllocError>
+    ensures { λ r. ⌜ Adds r (vec-items (now (out .entry))) (vec-items (now (out .exit))) (answerTo method limit (length (now (work .entry))) (readLines (length (now (records .entry))) (linesOf (now (text .entry))))) ⌝ }
+{
     let mut script = Script::open(limit);
     let table = match read(records, text) {
         Ok(table) => table,

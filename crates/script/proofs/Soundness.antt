@@ -59,7 +59,7 @@ pub same-sound : (s t : List Definition) (n : ℕ) → ∥ Sound (take n s) ∥�
 same-sound s t n h e = subst (λ ds. ∥ Sound ds ∥₁) (sym e) h
 
 -- an outcome that is written comes from what the method wrote
-wrote-by : (o : Option State) (ds : List Definition) (t : Bool) (e : Refusal) (x : Operand) (k : ℕ) (all : List Definition) → written x k all ≡ choose t (limited ds o) (refused e) → o ≡ Some (record { answer = x; all = all })
+pub wrote-by : (o : Option State) (ds : List Definition) (t : Bool) (e : Refusal) (x : Operand) (k : ℕ) (all : List Definition) → written x k all ≡ choose t (limited ds o) (refused e) → o ≡ Some (record { answer = x; all = all })
 wrote-by (Some st) ds true e x k all h = λ i. Some (back i)
   where
     back : st ≡ record { answer = x; all = all }
