@@ -1,4 +1,6 @@
 //! What the bench links: a script of 4,096 definitions, evaluated on sampled states as often as is asked.
+#![tactic(auto)]
+
 use algebra::sampled::SampledStates;
 use definitions::operand::{DefinitionNumber, Operand, Operator};
 use evaluate::evaluation::evaluate;

@@ -1,4 +1,6 @@
 //! The laws of combine and of the three methods, over every Boolean algebra. The functions compute nothing: each contract is a law.
+#![tactic(auto)]
+
 ghost use contract.Fact.{fact};
 ghost use Rattle.algebra.specs.Algebra.{EveryAlgebra};
 ghost use Rattle.laws.specs.Laws.{CombineRight, MethodsRight, KeptRight, TranslationRight};

@@ -1,5 +1,7 @@
 //! Every life of a script: whatever calls are made in whatever order, what was answered stays right. `evaluate` here is the one of
 //! evaluate, under the promise of every life over its algebra.
+#![tactic(auto)]
+
 ghost use contract.Fact.{fact};
 ghost use Rattle.script.specs.Script.{definitions_of};
 ghost use Rattle.algebra.specs.Algebra.{EveryAlgebra};

@@ -1,4 +1,6 @@
 //! Replays lives of a script: reads one call a line on standard input, and writes each answer on standard output.
+#![tactic(auto)]
+
 mod answers;
 mod call;
 mod memory;

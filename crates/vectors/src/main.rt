@@ -1,4 +1,6 @@
 //! Runs outside cases: reads one case a line on standard input, and writes the answers, one behind the other, on standard output.
+#![tactic(auto)]
+
 mod case;
 
 use case::Case;

@@ -1,4 +1,6 @@
 //! Reads a table on standard input, and writes its merged delivery, or the line that tells its first refusal, on standard output.
+#![tactic(auto)]
+
 ghost use Rattle.std.specs.Prelude.{◌≤◌, length, IfOk};
 
 use methods::translate::Method;

@@ -1,4 +1,6 @@
 //! The words of a line, as the programs read them: methods, decimal and hexadecimal numbers, operands.
+#![tactic(auto)]
+
 ghost use Rattle.std.specs.Prelude.{◌≡◌};
 ghost use Rattle.text.specs.Lines.{up_to, behind};
 ghost use Rattle.definitions.specs.Operands.{operand_of_kind};
