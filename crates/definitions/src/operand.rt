@@ -1,3 +1,5 @@
+ghost use Rattle.std.specs.Prelude.{◌≡◌, Decides};
+
 use rack::find::Same;
 use rack::part::Part;
 
@@ -42,8 +44,17 @@ impl Definition {
     };
 }
 
+/// Whether two operands are the same.
+fn same_operand(a: &Operand, b: &Operand) -> bool
+    ensures { Decides result (a.now ≡ b.now) }
+{
+    *a == *b
+}
+
 impl Same for Definition {
     fn same(&self, other: &Definition) -> bool {
-        *self == *other
+        self.operator == other.operator
+            && same_operand(&self.first, &other.first)
+            && same_operand(&self.second, &other.second)
     }
 }

@@ -18,8 +18,8 @@ returns c =
     let text = c.args.text.now in
     record {
       frame =
-          c.by-kind.ensures.frame
-          ∙ ap (by_kind line text) (all_decoded text c.decode-n.new.into c.decode-n.result 50 c.decode-n.ensures.many (omega (arith, c.in-ok-check-line.ensures.long.1)) c.decode-n.ensures.bytes)
-          ∙ ap (λ o. unless_refused o (by_kind line text (decoded text))) c.in-ok-check-line.ensures.refusal;
-      short = shorter c.by-kind.result (length text) c.in-ok-check-line.ensures.long.1 c.by-kind.ensures.short;
+          c.by_kind.ensures.frame
+          ∙ ap (by_kind line text) (all_decoded text c.decode-n.new.into c.decode-n.result 50 c.decode-n.ensures.many (omega (arith, c.in_ok-check_line.ensures.long.1)) c.decode-n.ensures.bytes)
+          ∙ ap (λ o. unless_refused o (by_kind line text (decoded text))) c.in_ok-check_line.ensures.refusal;
+      short = shorter c.by_kind.result (length text) c.in_ok-check_line.ensures.long.1 c.by_kind.ensures.short;
     }

@@ -8,10 +8,10 @@ use Rattle.text.proofs.frame.signed.Goals as goal
 pub loop-k-init : goal.loop-k-init
 loop-k-init c = (refl, none_behind _)
 
-pub returns-in-default : goal.returns-in-default
-returns-in-default c =
+pub returns-in_default : goal.returns-in_default
+returns-in_default c =
     ap (λ p. Err (UnknownSign p)) c.position.ensures
-    ∙ wrong_sign c.args.line.0 c.args.body.now c.loop-k.k (omega arith) _ _ (sym c.in-default.ensures) c.loop-k.invariant.1
+    ∙ wrong_sign c.args.line.0 c.args.body.now c.loop-k.k (omega arith) _ _ (sym c.in_default.ensures) c.loop-k.invariant.1
 
 pub loop-k-preserved : goal.loop-k-preserved
 loop-k-preserved c = (

@@ -20,14 +20,14 @@ short_way f p ds e l = subst (λ (g : Frame). length (digits_of g) ≤ 98) e l
 pub returns-in-Ok : goal.returns-in-Ok
 returns-in-Ok c =
     let line = c.args.line.0 in
-    let short : length c.in-Way.digits.now ≤ 98 = short_way c.in-ok-digits.field-0 c.in-Way.at c.in-Way.digits c.in-Way.is c.in-ok-digits.ensures.short in
+    let short : length c.in-Way.digits.now ≤ 98 = short_way c.in_ok-digits.field-0 c.in-Way.at c.in-Way.digits c.in-Way.is c.in_ok-digits.ensures.short in
     c.rising.ensures
     ∙ ap (λ r. followed r (rising line)) (c.in-Ok.ensures ∙ ap (literals_at line) (all_decoded c.in-Way.digits.now c.decode-n.new.into c.decode-n.result 49 c.decode-n.ensures.many (omega (arith, short)) c.decode-n.ensures.bytes))
-    ∙ as_way line c.args.text.now c.in-ok-digits.field-0 c.in-Way.at c.in-Way.digits c.in-Way.is c.in-ok-digits.ensures.frame
+    ∙ as_way line c.args.text.now c.in_ok-digits.field-0 c.in-Way.at c.in-Way.digits c.in-Way.is c.in_ok-digits.ensures.frame
 
 pub returns-in-Err : goal.returns-in-Err
 returns-in-Err c =
     let line = c.args.line.0 in
-    let short : length c.in-Way.digits.now ≤ 98 = short_way c.in-ok-digits.field-0 c.in-Way.at c.in-Way.digits c.in-Way.is c.in-ok-digits.ensures.short in
+    let short : length c.in-Way.digits.now ≤ 98 = short_way c.in_ok-digits.field-0 c.in-Way.at c.in-Way.digits c.in-Way.is c.in_ok-digits.ensures.short in
     ap (λ r. followed r (rising line)) (c.in-Err.ensures ∙ ap (literals_at line) (all_decoded c.in-Way.digits.now c.decode-n.new.into c.decode-n.result 49 c.decode-n.ensures.many (omega (arith, short)) c.decode-n.ensures.bytes))
-    ∙ as_way line c.args.text.now c.in-ok-digits.field-0 c.in-Way.at c.in-Way.digits c.in-Way.is c.in-ok-digits.ensures.frame
+    ∙ as_way line c.args.text.now c.in_ok-digits.field-0 c.in-Way.at c.in-Way.digits c.in-Way.is c.in_ok-digits.ensures.frame
