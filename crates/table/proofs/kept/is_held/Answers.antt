@@ -4,4 +4,4 @@ use Rattle.table.proofs.KeptWays.{found_held}
 use Rattle.table.proofs.kept.is_held.Goals as goal
 
 pub returns : goal.returns
-returns c = c.is-some.ensures ∙ found_held c.args.way.now c.args.literal c.find-first.result c.find-first.ensures
+returns c = c.is_some.ensures ∙ found_held c.args.way.now c.args.literal c.find_first.result c.find_first.ensures

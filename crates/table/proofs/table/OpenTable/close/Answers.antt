@@ -6,6 +6,6 @@ use Rattle.table.proofs.table.OpenTable.close.Goals as goal
 pub returns : goal.returns
 returns c =
     record {
-      due = sym c.in-default.ensures;
+      due = sym c.in_default.ensures;
       left = record { number = refl; contents = take_min c.args.self.records.now c.min-n.result c.args.self.entered c.min-n.ensures };
     }

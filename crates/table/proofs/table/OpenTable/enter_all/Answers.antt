@@ -13,9 +13,9 @@ returns-in-Err c =
     let t = c.loop-line.self in
     let u = c.enter.new.self in
     let l = c.in-Some.line.now in
-    let other : is_end (frame_at (due_line t.entered) l) ≡ false = sym (c.if-is-end.ensures ∙ ap (λ n. is_end (frame_at n l)) c.line.ensures) in
+    let other : is_end (frame_at (due_line t.entered) l) ≡ false = sym (c.if-is_end.ensures ∙ ap (λ n. is_end (frame_at n l)) c.line.ensures) in
     record {
-      outcome = sym c.loop-line.invariant.0 ∙ ap (body_from t) c.in-Some.ensures ∙ body_stops was t u c.loop-line.invariant.1 l c.in-Err.refusal c.in-Err.ensures.answer (lines_of c.next-line.new.self.rest.now) other;
+      outcome = sym c.loop-line.invariant.0 ∙ ap (body_from t) c.in-Some.ensures ∙ body_stops was t u c.loop-line.invariant.1 l c.in-Err.refusal c.in-Err.ensures.answer (lines_of c.next_line.new.self.rest.now) other;
       filled = filled_still was t u c.loop-line.invariant.1 l c.in-Err.refusal c.in-Err.ensures.answer;
       lender = c.in-Err.ensures.lender ∙ c.loop-line.invariant.2;
     }
@@ -26,8 +26,8 @@ loop-line-preserved c =
     let t = c.loop-line.self in
     let u = c.enter.new.self in
     let l = c.in-Some.line.now in
-    let other : is_end (frame_at (due_line t.entered) l) ≡ false = sym (c.if-is-end.ensures ∙ ap (λ n. is_end (frame_at n l)) c.line.ensures) in (
-      body_more was t u c.loop-line.invariant.1 l c.in-default-enter.field-0 c.in-default-enter.ensures.answer (lines_of c.next-line.new.self.rest.now) other ∙ ap (body_from t) (sym c.in-Some.ensures) ∙ c.loop-line.invariant.0,
-      filled_more was t u c.loop-line.invariant.1 l c.in-default-enter.field-0 c.in-default-enter.ensures.answer,
-      c.in-default-enter.ensures.lender ∙ c.loop-line.invariant.2,
+    let other : is_end (frame_at (due_line t.entered) l) ≡ false = sym (c.if-is_end.ensures ∙ ap (λ n. is_end (frame_at n l)) c.line.ensures) in (
+      body_more was t u c.loop-line.invariant.1 l c.in_default-enter.field-0 c.in_default-enter.ensures.answer (lines_of c.next_line.new.self.rest.now) other ∙ ap (body_from t) (sym c.in-Some.ensures) ∙ c.loop-line.invariant.0,
+      filled_more was t u c.loop-line.invariant.1 l c.in_default-enter.field-0 c.in_default-enter.ensures.answer,
+      c.in_default-enter.ensures.lender ∙ c.loop-line.invariant.2,
     )
