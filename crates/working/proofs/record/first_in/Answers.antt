@@ -11,7 +11,7 @@ returns-in-Some c =
 
 pub loop-place-preserved : goal.loop-place-preserved
 loop-place-preserved c =
-    sym (first_later c.args.left.now c.loop-place.place-index None (omega arith) c.in-default.is) ∙ c.loop-place.invariant
+    sym (first_later c.args.left.now c.loop-place.place-index None (omega arith) c.in_default.is) ∙ c.loop-place.invariant
 
 pub returns : goal.returns
 returns c =

@@ -5,7 +5,7 @@ use Rattle.working.proofs.record.same_places.Goals as goal
 
 pub loop-i-preserved : goal.loop-i-preserved
 loop-i-preserved c =
-    take_more_same c.args.a.now c.args.b.now c.loop-i.i _ c.loop-i-test.true (omega arith) c.loop-i.invariant (c.same-place.ensures.0 c.if-not-same-place.false)
+    take_more_same c.args.a.now c.args.b.now c.loop-i.i _ c.loop-i-test.true (omega arith) c.loop-i.invariant (c.same_place.ensures.0 c.if-not-same_place.false)
 
 pub returns : goal.returns
 returns c = (
