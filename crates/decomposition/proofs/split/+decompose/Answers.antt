@@ -14,73 +14,73 @@ returns-in-Anything t c = like (by_anything c.args.limit (ways_in c.args.list.no
 pub decompose-requires : goal.decompose-requires
 decompose-requires t c =
     let ws = ways_in c.args.list.now in
-    let cut = c.split-at-mut-ways.ensures in
-    let p = front_ways _ _ cut.value cut.front-len c.copy-under-n.ensures.ways in (
+    let cut = c.split_at_mut-ways.ensures in
+    let p = front_ways _ _ cut.value cut.front_len c.copy_under-n.ensures.ways in (
       first_smaller c.args.limit c.in-At.part ws c.in-At.ensures p c.decreases,
-      spare_serves (working_of c.in-At.part) ws _ _ p cut.front-len cut.back_len (omega (arith, c.requires.enough, c.copy-under-n.auto.room)),
+      spare_serves (working_of c.in-At.part) ws _ _ p cut.front_len cut.back_len (omega (arith, c.requires.enough, c.copy_under-n.auto.room)),
     )
 
-pub returns-in-err-working : goal.returns-in-err-working
-returns-in-err-working t c =
-    let cut = c.split-at-mut-ways.ensures in
-    let p = front_ways _ _ cut.value cut.front-len c.copy-under-n.ensures.ways in
-    stops_first c.args.limit c.in-At.part (ways_in c.args.list.now) c.in-At.ensures p _ c.from-residual.ensures.0 c.in-err-working.ensures
+pub returns-in_err-working : goal.returns-in_err-working
+returns-in_err-working t c =
+    let cut = c.split_at_mut-ways.ensures in
+    let p = front_ways _ _ cut.value cut.front_len c.copy_under-n.ensures.ways in
+    stops_first c.args.limit c.in-At.part (ways_in c.args.list.now) c.in-At.ensures p _ c.from_residual.ensures.0 c.in_err-working.ensures
 
-pub copy-under-m-requires : goal.copy-under-m-requires
-copy-under-m-requires t c =
-    let cut = c.split-at-mut-others.ensures in
-    let o = front_ways _ _ cut.value cut.front-len c.keep-beside-k.ensures.ways in
-    beside_serves (working_of c.in-At.part) (ways_in c.args.list.now) _ o (omega (arith, c.requires.enough, c.copy-under-n.auto.room))
+pub copy_under-m-requires : goal.copy_under-m-requires
+copy_under-m-requires t c =
+    let cut = c.split_at_mut-others.ensures in
+    let o = front_ways _ _ cut.value cut.front_len c.keep_beside-k.ensures.ways in
+    beside_serves (working_of c.in-At.part) (ways_in c.args.list.now) _ o (omega (arith, c.requires.enough, c.copy_under-n.auto.room))
 
 pub decompose-requires-2 : goal.decompose-requires-2
 decompose-requires-2 t c =
     let ws = ways_in c.args.list.now in
-    let beside_cut = c.split-at-mut-others.ensures in
-    let o = front_ways _ _ beside_cut.value beside_cut.front-len c.keep-beside-k.ensures.ways in
-    let cut = c.split-at-mut-ways-2.ensures in
-    let p2 = front_ways _ _ cut.value cut.front-len c.copy-under-m.ensures.ways in (
+    let beside_cut = c.split_at_mut-others.ensures in
+    let o = front_ways _ _ beside_cut.value beside_cut.front_len c.keep_beside-k.ensures.ways in
+    let cut = c.split_at_mut-ways-2.ensures in
+    let p2 = front_ways _ _ cut.value cut.front_len c.copy_under-m.ensures.ways in (
       second_smaller c.in-At.part ws c.in-At.ensures o p2 c.decreases,
-      spare_serves (out_of c.in-At.part) _ _ _ p2 cut.front-len cut.back_len (beside_serves (working_of c.in-At.part) ws _ o (omega (arith, c.requires.enough, c.copy-under-m.auto.room, c.copy-under-n.auto.room))),
+      spare_serves (out_of c.in-At.part) _ _ _ p2 cut.front_len cut.back_len (beside_serves (working_of c.in-At.part) ws _ o (omega (arith, c.requires.enough, c.copy_under-m.auto.room, c.copy_under-n.auto.room))),
     )
 
-pub returns-in-err-out : goal.returns-in-err-out
-returns-in-err-out t c =
-    let first_cut = c.split-at-mut-ways.ensures in
-    let p = front_ways _ _ first_cut.value first_cut.front-len c.copy-under-n.ensures.ways in
-    let beside_cut = c.split-at-mut-others.ensures in
-    let o = front_ways _ _ beside_cut.value beside_cut.front-len c.keep-beside-k.ensures.ways in
-    let cut = c.split-at-mut-ways-2.ensures in
-    let p2 = front_ways _ _ cut.value cut.front-len c.copy-under-m.ensures.ways in
-    stops_second c.args.limit c.in-At.part (ways_in c.args.list.now) c.in-At.ensures p c.in-ok-working.ensures o p2 _ c.from-residual-in-err-out.ensures.0 c.in-err-out.ensures
+pub returns-in_err-out : goal.returns-in_err-out
+returns-in_err-out t c =
+    let first_cut = c.split_at_mut-ways.ensures in
+    let p = front_ways _ _ first_cut.value first_cut.front_len c.copy_under-n.ensures.ways in
+    let beside_cut = c.split_at_mut-others.ensures in
+    let o = front_ways _ _ beside_cut.value beside_cut.front_len c.keep_beside-k.ensures.ways in
+    let cut = c.split_at_mut-ways-2.ensures in
+    let p2 = front_ways _ _ cut.value cut.front_len c.copy_under-m.ensures.ways in
+    stops_second c.args.limit c.in-At.part (ways_in c.args.list.now) c.in-At.ensures p c.in_ok-working.ensures o p2 _ c.from_residual-in_err-out.ensures.0 c.in_err-out.ensures
 
 pub decompose-requires-3 : goal.decompose-requires-3
 decompose-requires-3 t c =
     let ws = ways_in c.args.list.now in
-    let beside_cut = c.split-at-mut-others.ensures in
-    let o = front_ways _ _ beside_cut.value beside_cut.front-len c.keep-beside-k.ensures.ways in
-    let p3 = from_start c.keep-beside-j.new.list c.keep-beside-j.result c.keep-beside-j.ensures.ways in (
+    let beside_cut = c.split_at_mut-others.ensures in
+    let o = front_ways _ _ beside_cut.value beside_cut.front_len c.keep_beside-k.ensures.ways in
+    let p3 = from_start c.keep_beside-j.new.list c.keep_beside-j.result c.keep_beside-j.ensures.ways in (
       third_smaller c.in-At.part ws c.in-At.ensures o p3 c.decreases,
-      beside_serves (out_of c.in-At.part) _ _ p3 (beside_serves (working_of c.in-At.part) ws _ o (omega (arith, c.requires.enough, c.copy-under-m.auto.room, c.copy-under-n.auto.room))),
+      beside_serves (out_of c.in-At.part) _ _ p3 (beside_serves (working_of c.in-At.part) ws _ o (omega (arith, c.requires.enough, c.copy_under-m.auto.room, c.copy_under-n.auto.room))),
     )
 
-pub returns-in-err-rest : goal.returns-in-err-rest
-returns-in-err-rest t c =
-    let first_cut = c.split-at-mut-ways.ensures in
-    let p = front_ways _ _ first_cut.value first_cut.front-len c.copy-under-n.ensures.ways in
-    let beside_cut = c.split-at-mut-others.ensures in
-    let o = front_ways _ _ beside_cut.value beside_cut.front-len c.keep-beside-k.ensures.ways in
-    let cut = c.split-at-mut-ways-2.ensures in
-    let p2 = front_ways _ _ cut.value cut.front-len c.copy-under-m.ensures.ways in
-    let p3 = from_start c.keep-beside-j.new.list c.keep-beside-j.result c.keep-beside-j.ensures.ways in
-    stops_third c.args.limit c.in-At.part (ways_in c.args.list.now) c.in-At.ensures p c.in-ok-working.ensures o p2 c.in-ok-out.ensures p3 _ c.from-residual-in-err-rest.ensures.0 c.in-err-rest.ensures
+pub returns-in_err-rest : goal.returns-in_err-rest
+returns-in_err-rest t c =
+    let first_cut = c.split_at_mut-ways.ensures in
+    let p = front_ways _ _ first_cut.value first_cut.front_len c.copy_under-n.ensures.ways in
+    let beside_cut = c.split_at_mut-others.ensures in
+    let o = front_ways _ _ beside_cut.value beside_cut.front_len c.keep_beside-k.ensures.ways in
+    let cut = c.split_at_mut-ways-2.ensures in
+    let p2 = front_ways _ _ cut.value cut.front_len c.copy_under-m.ensures.ways in
+    let p3 = from_start c.keep_beside-j.new.list c.keep_beside-j.result c.keep_beside-j.ensures.ways in
+    stops_third c.args.limit c.in-At.part (ways_in c.args.list.now) c.in-At.ensures p c.in_ok-working.ensures o p2 c.in_ok-out.ensures p3 _ c.from_residual-in_err-rest.ensures.0 c.in_err-rest.ensures
 
 pub returns : goal.returns
 returns t c =
-    let first_cut = c.split-at-mut-ways.ensures in
-    let p = front_ways _ _ first_cut.value first_cut.front-len c.copy-under-n.ensures.ways in
-    let beside_cut = c.split-at-mut-others.ensures in
-    let o = front_ways _ _ beside_cut.value beside_cut.front-len c.keep-beside-k.ensures.ways in
-    let cut = c.split-at-mut-ways-2.ensures in
-    let p2 = front_ways _ _ cut.value cut.front-len c.copy-under-m.ensures.ways in
-    let p3 = from_start c.keep-beside-j.new.list c.keep-beside-j.result c.keep-beside-j.ensures.ways in
-    closes c.args.limit c.in-At.part (ways_in c.args.list.now) c.in-At.ensures p c.in-ok-working.ensures o p2 c.in-ok-out.ensures p3 c.in-ok-rest.ensures c.close.ensures
+    let first_cut = c.split_at_mut-ways.ensures in
+    let p = front_ways _ _ first_cut.value first_cut.front_len c.copy_under-n.ensures.ways in
+    let beside_cut = c.split_at_mut-others.ensures in
+    let o = front_ways _ _ beside_cut.value beside_cut.front_len c.keep_beside-k.ensures.ways in
+    let cut = c.split_at_mut-ways-2.ensures in
+    let p2 = front_ways _ _ cut.value cut.front_len c.copy_under-m.ensures.ways in
+    let p3 = from_start c.keep_beside-j.new.list c.keep_beside-j.result c.keep_beside-j.ensures.ways in
+    closes c.args.limit c.in-At.part (ways_in c.args.list.now) c.in-At.ensures p c.in_ok-working.ensures o p2 c.in_ok-out.ensures p3 c.in_ok-rest.ensures c.close.ensures

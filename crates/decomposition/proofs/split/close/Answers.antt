@@ -18,19 +18,19 @@ third limit c m n = and_then (combining limit Join m n) (fourth limit c)
 abbrev second : ℕ → Part → Operand → Operand → Operand → Writing
 second limit v b c m = and_then (combining limit Meet (Out v) b) (third limit c m)
 
-pub returns-in-err-fails : goal.returns-in-err-fails
-returns-in-err-fails c =
-    chain (second c.args.limit c.args.part c.args.out c.args.rest) c.in-ok-works.ensures
-    (stop _ (third c.args.limit c.args.rest c.in-ok-works.works) c.from-residual-in-err-fails.ensures.0 c.in-err-fails.ensures)
+pub returns-in_err-fails : goal.returns-in_err-fails
+returns-in_err-fails c =
+    chain (second c.args.limit c.args.part c.args.out c.args.rest) c.in_ok-works.ensures
+    (stop _ (third c.args.limit c.args.rest c.in_ok-works.works) c.from_residual-in_err-fails.ensures.0 c.in_err-fails.ensures)
 
-pub returns-in-err-either : goal.returns-in-err-either
-returns-in-err-either c =
-    chain (second c.args.limit c.args.part c.args.out c.args.rest) c.in-ok-works.ensures
-    (chain (third c.args.limit c.args.rest c.in-ok-works.works) c.in-ok-fails.ensures
-    (stop _ (fourth c.args.limit c.args.rest) c.from-residual-in-err-either.ensures.0 c.in-err-either.ensures))
+pub returns-in_err-either : goal.returns-in_err-either
+returns-in_err-either c =
+    chain (second c.args.limit c.args.part c.args.out c.args.rest) c.in_ok-works.ensures
+    (chain (third c.args.limit c.args.rest c.in_ok-works.works) c.in_ok-fails.ensures
+    (stop _ (fourth c.args.limit c.args.rest) c.from_residual-in_err-either.ensures.0 c.in_err-either.ensures))
 
 pub returns : goal.returns
 returns c =
-    chain (second c.args.limit c.args.part c.args.out c.args.rest) c.in-ok-works.ensures
-    (chain (third c.args.limit c.args.rest c.in-ok-works.works) c.in-ok-fails.ensures
-    (chain (fourth c.args.limit c.args.rest) c.in-ok-either.ensures c.combine-4.ensures))
+    chain (second c.args.limit c.args.part c.args.out c.args.rest) c.in_ok-works.ensures
+    (chain (third c.args.limit c.args.rest c.in_ok-works.works) c.in_ok-fails.ensures
+    (chain (fourth c.args.limit c.args.rest) c.in_ok-either.ensures c.combine-4.ensures))

@@ -4,7 +4,7 @@ use Rattle.working.specs.Records.{left_in}
 use Rattle.merging.specs.Trie.{entering}
 use Rattle.merging.proofs.Enters.{left_here, left_passed, left_none, one_literal, its_end}
 use Rattle.merging.proofs.trie.enter.Goals as goal
-use Rattle.merging.proofs.trie.enter.Goals.{in-Some, in-default}
+use Rattle.merging.proofs.trie.enter.Goals.{in-Some, in_default}
 
 pub loop-place-preserved : goal.loop-place-preserved
 loop-place-preserved c =
@@ -18,8 +18,8 @@ loop-place-preserved c =
                 ∙ one_literal _ _ w.in-Some.literal c.loop-place.node.0 w.reach-node.result.0 _ _ here w.reach-node.ensures.value
                 ∙ c.loop-place.invariant.1,
           )
-      | in-default w ↦
-          let passed = left_passed ps i _ c.loop-place-test.true w.in-default.is in (
+      | in_default w ↦
+          let passed = left_passed ps i _ c.loop-place-test.true w.in_default.is in (
             omega (arith, ap length passed, w.count-is, c.loop-place.invariant.0),
             (λ j. entering (sym passed j) (w.node-is j).0 (take (w.count-is j) (w.records-is j))) ∙ c.loop-place.invariant.1,
           )

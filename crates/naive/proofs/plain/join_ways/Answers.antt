@@ -18,27 +18,27 @@ loop-record-preserved c =
     let i = c.loop-record.record-index in
     let sofar = c.loop-record.sofar in
     goes_on (λ j. joining limit j (ways_in (drop (i + 1) rs)))
-    (goes_on (λ m. and_then (combining limit Join sofar m) (λ j. joining limit j (ways_in (drop (i + 1) rs)))) (renamed (sym (at_way limit sofar rs i _ c.loop-record-test.true)) c.loop-record.invariant) c.in-ok-met.ensures)
-    c.in-ok-sofar.ensures
+    (goes_on (λ m. and_then (combining limit Join sofar m) (λ j. joining limit j (ways_in (drop (i + 1) rs)))) (renamed (sym (at_way limit sofar rs i _ c.loop-record-test.true)) c.loop-record.invariant) c.in_ok-met.ensures)
+    c.in_ok-sofar.ensures
 
 pub returns : goal.returns
 returns c = ends c.loop-record.sofar (renamed (sym (past_ways c.args.limit c.loop-record.sofar c.args.list.now c.loop-record.record-index c.loop-record-test.false)) c.loop-record.invariant)
 
-pub returns-in-err-met : goal.returns-in-err-met
-returns-in-err-met c =
+pub returns-in_err-met : goal.returns-in_err-met
+returns-in_err-met c =
     let limit = c.args.limit in
     let rs = c.args.list.now in
     let i = c.loop-record.record-index in
     let sofar = c.loop-record.sofar in
-    breaks _ (λ m. and_then (combining limit Join sofar m) (λ j. joining limit j (ways_in (drop (i + 1) rs)))) c.from-residual.ensures.0
-    (renamed (sym (at_way limit sofar rs i _ c.loop-record-test.true)) c.loop-record.invariant) c.in-err-met.ensures
+    breaks _ (λ m. and_then (combining limit Join sofar m) (λ j. joining limit j (ways_in (drop (i + 1) rs)))) c.from_residual.ensures.0
+    (renamed (sym (at_way limit sofar rs i _ c.loop-record-test.true)) c.loop-record.invariant) c.in_err-met.ensures
 
-pub returns-in-err-sofar : goal.returns-in-err-sofar
-returns-in-err-sofar c =
+pub returns-in_err-sofar : goal.returns-in_err-sofar
+returns-in_err-sofar c =
     let limit = c.args.limit in
     let rs = c.args.list.now in
     let i = c.loop-record.record-index in
     let sofar = c.loop-record.sofar in
-    breaks _ (λ j. joining limit j (ways_in (drop (i + 1) rs))) c.from-residual-in-err-sofar.ensures.0
-    (goes_on (λ m. and_then (combining limit Join sofar m) (λ j. joining limit j (ways_in (drop (i + 1) rs)))) (renamed (sym (at_way limit sofar rs i _ c.loop-record-test.true)) c.loop-record.invariant) c.in-ok-met.ensures)
-    c.in-err-sofar.ensures
+    breaks _ (λ j. joining limit j (ways_in (drop (i + 1) rs))) c.from_residual-in_err-sofar.ensures.0
+    (goes_on (λ m. and_then (combining limit Join sofar m) (λ j. joining limit j (ways_in (drop (i + 1) rs)))) (renamed (sym (at_way limit sofar rs i _ c.loop-record-test.true)) c.loop-record.invariant) c.in_ok-met.ensures)
+    c.in_err-sofar.ensures

@@ -5,7 +5,7 @@ use Rattle.working.specs.Records.{left_in}
 use Rattle.naive.specs.Naive.{meeting}
 use Rattle.naive.proofs.Turns.{at_literal, at_none, at_end}
 use Rattle.naive.proofs.plain.meet_places.Goals as goal
-use Rattle.naive.proofs.plain.meet_places.Goals.{in-Some+in-ok-sofar, in-default}
+use Rattle.naive.proofs.plain.meet_places.Goals.{in-Some+in_ok-sofar, in_default}
 
 pub loop-place-init : goal.loop-place-init
 loop-place-init c = begun
@@ -17,16 +17,16 @@ loop-place-preserved c =
     let i = c.loop-place.place-index in
     let sofar = c.loop-place.sofar in
     elim c.match-place.branch [
-      | in-Some+in-ok-sofar w ↦
+      | in-Some+in_ok-sofar w ↦
           moved (λ x. meeting limit x (left_in (drop (i + 1) ps))) w.slots-is w.count-is w.sofar-is
-          (goes_on (λ m. meeting limit m (left_in (drop (i + 1) ps))) (renamed (sym (at_literal limit sofar ps i _ w.in-Some.literal w.operand-of.result c.loop-place-test.true w.in-Some.is w.operand-of.ensures)) c.loop-place.invariant) w.in-ok-sofar.ensures)
-      | in-default w ↦ moved (λ x. meeting limit x (left_in (drop (i + 1) ps))) w.slots-is w.count-is w.sofar-is (renamed (sym (at_none limit sofar ps i _ c.loop-place-test.true w.in-default.is)) c.loop-place.invariant)
+          (goes_on (λ m. meeting limit m (left_in (drop (i + 1) ps))) (renamed (sym (at_literal limit sofar ps i _ w.in-Some.literal w.operand_of.result c.loop-place-test.true w.in-Some.is w.operand_of.ensures)) c.loop-place.invariant) w.in_ok-sofar.ensures)
+      | in_default w ↦ moved (λ x. meeting limit x (left_in (drop (i + 1) ps))) w.slots-is w.count-is w.sofar-is (renamed (sym (at_none limit sofar ps i _ c.loop-place-test.true w.in_default.is)) c.loop-place.invariant)
     ]
 
 pub returns : goal.returns
 returns c = ends c.loop-place.sofar (renamed (sym (at_end c.args.limit c.loop-place.sofar c.args.left.now c.loop-place.place-index c.loop-place-test.false)) c.loop-place.invariant)
 
-pub returns-in-err-sofar : goal.returns-in-err-sofar
-returns-in-err-sofar c =
-    breaks _ (λ m. meeting c.args.limit m (left_in (drop (c.loop-place.place-index + 1) c.args.left.now))) c.from-residual.ensures.0
-    (renamed (sym (at_literal c.args.limit c.loop-place.sofar c.args.left.now c.loop-place.place-index _ c.in-Some.literal c.operand-of.result c.loop-place-test.true c.in-Some.is c.operand-of.ensures)) c.loop-place.invariant) c.in-err-sofar.ensures
+pub returns-in_err-sofar : goal.returns-in_err-sofar
+returns-in_err-sofar c =
+    breaks _ (λ m. meeting c.args.limit m (left_in (drop (c.loop-place.place-index + 1) c.args.left.now))) c.from_residual.ensures.0
+    (renamed (sym (at_literal c.args.limit c.loop-place.sofar c.args.left.now c.loop-place.place-index _ c.in-Some.literal c.operand_of.result c.loop-place-test.true c.in-Some.is c.operand_of.ensures)) c.loop-place.invariant) c.in_err-sofar.ensures

@@ -7,8 +7,8 @@ use Rattle.working.proofs.Translating.{told_short, told_written, told_limit, lis
 use Rattle.naive.specs.Naive.{naively}
 use Rattle.naive.proofs.plain.naive.Goals as goal
 
-pub returns-in-default : goal.returns-in-default
-returns-in-default c = told_short naively c.args.limit (ways_of c.args.ways.now) c.args.work.now _ c.in-default.ensures
+pub returns-in_default : goal.returns-in_default
+returns-in_default c = told_short naively c.args.limit (ways_of c.args.ways.now) c.args.work.now _ c.in_default.ensures
 
 pub returns-in-Ok : goal.returns-in-Ok
 returns-in-Ok c =
