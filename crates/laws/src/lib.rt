@@ -10,28 +10,28 @@ use algebra::boolean::BooleanAlgebra;
 
 /// What one meet or join adds, and what its answer is worth.
 pub fn combine_right<A: BooleanAlgebra>() -> bool
-    ensures { CombineRight algebra }
+    ensures { CombineRight A.algebra }
 {
     true
 }
 
 /// What each method adds for any ways, and what its answer is worth.
 pub fn methods_right<A: BooleanAlgebra>() -> bool
-    ensures { MethodsRight algebra }
+    ensures { MethodsRight A.algebra }
 {
     true
 }
 
 /// The kept ways are worth what all ways entered are.
 pub fn kept_right<A: BooleanAlgebra>() -> bool
-    ensures { KeptRight algebra }
+    ensures { KeptRight A.algebra }
 {
     true
 }
 
 /// What a translation adds for the kept ways, and that its answer is worth what all ways entered are.
 pub fn translation_right<A: BooleanAlgebra>() -> bool
-    ensures { TranslationRight algebra }
+    ensures { TranslationRight A.algebra }
 {
     true
 }

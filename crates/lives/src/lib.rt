@@ -24,8 +24,8 @@ pub fn evaluate<A: BooleanAlgebra>(
     settings: &[A],
     elements: &mut [A],
 ) -> Result<(A, usize), Refusal>
-    ensures answer { Evaluation algebra value (definitions_of script.now) operand settings.now elements.old elements.new result }
-    ensures life { EveryLife algebra }
+    ensures answer { Evaluation A.algebra A.value (definitions_of script.now) operand settings.now elements.old elements.new result }
+    ensures life { EveryLife A.algebra }
 {
     evaluate_operand(script, operand, settings, elements)
 }

@@ -53,9 +53,9 @@ module _ {M : Type 1} {𝓤 : Ura M} (𝓛 : Logic 𝓤) (at_mem : Memory → SP
       (walked 𝓛 F.ended tt clauses (WpFn 𝓤 H 𝓣.C 𝓣.Λ code.function) (λ κs. tt) (λ κs. tt)
       (λ κs qs bounds a g are. via 𝓤 _ (fst∗ 𝓤 _ ((clauses κs a).requires g)) walk))
 
-pub every-life-everywhere-spec : {M : Type 1} → stated.statement M
+pub every_life_everywhere_spec : {M : Type 1} → stated.statement M
 unfolding tables_of
-every-life-everywhere-spec 𝓤 𝓛 𝓜 𝓡 wired =
+every_life_everywhere_spec 𝓤 𝓛 𝓜 𝓡 wired =
     let A = 𝓛.A in
     let 𝓣 : Tables 𝓤 𝓛.H = tables_of 𝓤 𝓛.H 𝓜 (tables 𝓤 𝓛.H 𝓜 𝓡 𝓡.env) in
     entered 𝓤 𝓛.H (triple_of 𝓛 F.signature (F.spec 𝓛 𝓜.mem 𝓡.returns)) 𝓣.C 𝓣.Λ #self code.function (code.unfolded 𝓤 𝓛.H 𝓜 𝓡 wired)
