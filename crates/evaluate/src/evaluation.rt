@@ -16,7 +16,7 @@ fn work_out<A: BooleanAlgebra>(
 ) -> usize
     requires whole { length settings.now ≡ 256 }
     requires room { length definitions.now ≤ length elements.old }
-    ensures { WorkedOut algebra value definitions.now settings.now elements.old elements.new result }
+    ensures { WorkedOut A.algebra A.value definitions.now settings.now elements.old elements.new result }
 {
     let mut operations = 0;
     for (i, definition) in definitions.iter().enumerate() {
@@ -35,7 +35,7 @@ pub fn evaluate<A: BooleanAlgebra>(
     settings: &[A],
     elements: &mut [A],
 ) -> Result<(A, usize), Refusal>
-    ensures { Evaluation algebra value (definitions_of script.now) operand settings.now elements.old elements.new result }
+    ensures { Evaluation A.algebra A.value (definitions_of script.now) operand settings.now elements.old elements.new result }
 {
     if !script.knows(operand) {
         return Err(Refusal::NoSuchDefinition);

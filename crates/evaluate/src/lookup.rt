@@ -21,7 +21,7 @@ pub(crate) fn reach(operand: Operand) -> usize
 
 /// The element of a definition by its number, among those that are worked out, and bottom past their end.
 fn look_up<A: BooleanAlgebra>(number: DefinitionNumber, done: &[A]) -> A
-    ensures { value result ≡ slice_index_or (map value done.now) (number.0 - 1) algebra.bottom }
+    ensures { A.value result ≡ slice_index_or (map A.value done.now) (number.0 - 1) A.algebra.bottom }
 {
     let place = (number.0 as usize).saturating_sub(1);
     if place < done.len() {
@@ -34,7 +34,7 @@ fn look_up<A: BooleanAlgebra>(number: DefinitionNumber, done: &[A]) -> A
 /// The element of an operand, by the settings and by the definitions that are worked out.
 pub(crate) fn operand_element<A: BooleanAlgebra>(operand: Operand, settings: &[A], done: &[A]) -> A
     requires whole { length settings.now ≡ 256 }
-    ensures { value result ≡ operand_worth algebra (settings_of algebra (map value settings.now)) (map value done.now) operand }
+    ensures { A.value result ≡ operand_worth A.algebra (settings_of A.algebra (map A.value settings.now)) (map A.value done.now) operand }
 {
     match operand {
         Operand::Never => A::bottom(),
@@ -52,7 +52,7 @@ pub(crate) fn definition_element<A: BooleanAlgebra>(
     done: &[A],
 ) -> A
     requires whole { length settings.now ≡ 256 }
-    ensures { value result ≡ definition_worth algebra (settings_of algebra (map value settings.now)) (map value done.now) definition.now }
+    ensures { A.value result ≡ definition_worth A.algebra (settings_of A.algebra (map A.value settings.now)) (map A.value done.now) definition.now }
 {
     let first = operand_element(definition.first, settings, done);
     let second = operand_element(definition.second, settings, done);

@@ -8,7 +8,7 @@ use algebra::boolean::BooleanAlgebra;
 
 /// Every worked case comes out as written down.
 pub fn worked_cases<A: BooleanAlgebra>() -> bool
-    ensures { Worked algebra }
+    ensures { Worked A.algebra }
 {
     true
 }

@@ -3,5 +3,5 @@ use Rattle.std.proofs.Common.{refl, arith}
 use Rattle.script.proofs.Soundness.{empty_sound}
 use Rattle.script.proofs.script.Script.open.Goals as goal
 
-pub invariant-of-result : goal.invariant-of-result
-invariant-of-result c = (refl, (omega arith, (omega arith, (∣ empty_sound ∣₁, tt))))
+pub invariant_of-result : goal.invariant_of-result
+invariant_of-result c = record { room = refl; within = omega arith; bounded = omega arith; sound = ∣ empty_sound ∣₁ }
