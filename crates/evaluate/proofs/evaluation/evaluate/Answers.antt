@@ -14,10 +14,10 @@ returns g c =
     let x = c.args.operand in
     let settings = c.args.settings.now in
     let was = c.args.elements.now in
-    let after = c.work-out-operations.new.elements in
-    let n = c.work-out-operations.result in
+    let after = c.work_out-operations.new.elements in
+    let n = c.work_out-operations.result in
     let all = c.definitions-definitions.ensures in
     let needed : c.reach-needed.result - 0 ≡ reach x = sub-zero c.reach-needed.result ∙ c.reach-needed.ensures in
-    accepted m.algebra m.value _ x settings was after n c.operand-element-answer.result (sym c.knows.ensures ∙ c.if-not-knows.false) (omega arith) (omega arith)
-    (subst (λ (ds : List Definition). WorkedOut m.algebra m.value ds settings was after n) (λ i. take (needed i) (all i)) c.work-out-operations.ensures)
-    (c.operand-element-answer.ensures ∙ ap (λ k. operand_worth m.algebra (settings_of m.algebra (map m.value settings)) (map m.value (take k after)) x) needed)
+    accepted m.algebra m.value _ x settings was after n c.operand_element-answer.result (sym c.knows.ensures ∙ c.if-not-knows.false) (omega arith) (omega arith)
+    (subst (λ (ds : List Definition). WorkedOut m.algebra m.value ds settings was after n) (λ i. take (needed i) (all i)) c.work_out-operations.ensures)
+    (c.operand_element-answer.ensures ∙ ap (λ k. operand_worth m.algebra (settings_of m.algebra (map m.value settings)) (map m.value (take k after)) x) needed)

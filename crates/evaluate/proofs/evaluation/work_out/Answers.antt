@@ -13,12 +13,12 @@ loop-i-preserved g c =
     let i = c.loop-i.i in
     let was = c.loop-i.elements in
     let ds = c.args.definitions.now in
-    let new = c.definition-element.result in
+    let new = c.definition_element.result in
     let within : i < length ds = omega arith in
     let room : i < length was = omega arith in (
       ap (λ n. n + 1) c.loop-i.invariant.0,
       length-set was i new ∙ c.loop-i.invariant.1,
-      values_more m.algebra m.value s was ds i new within room c.definition-element.ensures ∙ c.loop-i.invariant.2,
+      values_more m.algebra m.value s was ds i new within room c.definition_element.ensures ∙ c.loop-i.invariant.2,
       later_more i was c.args.elements.now new c.loop-i.invariant.3,
     )
 

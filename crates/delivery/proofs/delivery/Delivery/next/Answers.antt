@@ -9,7 +9,7 @@ returns c =
     record {
       due = search rules;
       length_is = refl;
-      line = c.put-front.ensures ∙ ap (λ l. over l c.args.line.now) (c.definition-line.ensures ∙ ap (λ ds. definition_line (get_or ds c.args.self.now.sent blank)) c.definitions.ensures);
+      line = c.put_front.ensures ∙ ap (λ l. over l c.args.line.now) (c.definition_line.ensures ∙ ap (λ ds. definition_line (get_or ds c.args.self.now.sent blank)) c.definitions.ensures);
       script_is = refl;
       operand_is = refl;
       one_more = refl;
