@@ -118,13 +118,13 @@ pub fn operand(word: &[u8]) -> Option<Operand>
 pub fn method(word: &[u8]) -> Option<Method>
     ensures { NamesMethod word.now result }
 {
-    if word == b"plain" {
+    if word == b"plain".as_slice() {
         return Some(Method::Naive);
     }
-    if word == b"decomposed" {
+    if word == b"decomposed".as_slice() {
         return Some(Method::Decomposition);
     }
-    if word == b"merged" {
+    if word == b"merged".as_slice() {
         return Some(Method::NodeMerging);
     }
     None

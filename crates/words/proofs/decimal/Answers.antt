@@ -16,10 +16,10 @@ pub loop-b-preserved : goal.loop-b-preserved
 loop-b-preserved c =
     let n = c.loop-b.n in
     let rest = drop (c.loop-b.b-index + 1) c.args.word.now in (
-      capped_alike _ (n * 10 + c.in-Some.d) rest (omega (arith, c.saturating-mul.ensures, c.saturating-add-n.ensures))
+      capped_alike _ (n * 10 + c.in-Some.d) rest (omega (arith, c.saturating_mul.ensures, c.saturating_add-n.ensures))
           ∙ sym (ap capped (one_more decimal_digit 10 n c.args.word.now c.loop-b.b-index _ c.in-Some.d c.loop-b-test.true c.in-Some.ensures))
           ∙ c.loop-b.invariant.0,
-      omega (arith, c.saturating-add-n.ensures),
+      omega (arith, c.saturating_add-n.ensures),
     )
 
 pub returns : goal.returns

@@ -7,11 +7,11 @@ use Rattle.words.proofs.hexadecimal.Goals as goal
 pub loop-b-init : goal.loop-b-init
 loop-b-init c = (refl, omega arith)
 
-pub overflow-mul-n : goal.overflow-mul-n
-overflow-mul-n c = omega (arith, c.loop-b.invariant.1, at_most c.loop-b.b-index (omega (arith, c.loop-b-test.true, c.if-word-gt16.false)))
+pub overflow_mul-n : goal.overflow_mul-n
+overflow_mul-n c = omega (arith, c.loop-b.invariant.1, at_most c.loop-b.b-index (omega (arith, c.loop-b-test.true, c.if-word-gt16.false)))
 
-pub overflow-add-n : goal.overflow-add-n
-overflow-add-n c = omega (arith, c.loop-b.invariant.1, small (get_or c.args.word.now c.loop-b.b-index 0) c.in-Some.d c.in-Some.ensures, at_most c.loop-b.b-index (omega (arith, c.loop-b-test.true, c.if-word-gt16.false)))
+pub overflow_add-n : goal.overflow_add-n
+overflow_add-n c = omega (arith, c.loop-b.invariant.1, small (get_or c.args.word.now c.loop-b.b-index 0) c.in-Some.d c.in-Some.ensures, at_most c.loop-b.b-index (omega (arith, c.loop-b-test.true, c.if-word-gt16.false)))
 
 pub returns-in-None : goal.returns-in-None
 returns-in-None c =
