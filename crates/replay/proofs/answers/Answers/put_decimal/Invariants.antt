@@ -2,5 +2,5 @@
 use Rattle.std.proofs.Common.{◌≡◌, ◌≤◌, length}
 use Rattle.replay.proofs.answers.Answers.put_decimal.Given as goal
 
-abbrev pub Inv-loop-i : goal.invariant-loop-i
-Inv-loop-i l = (length l.digits ≡ 20) × (l.at ≤ 20)
+abbrev pub invariant-loop-i : goal.invariant-loop-i
+invariant-loop-i l = (length l.digits ≡ 20) × (l.at ≤ 20)
