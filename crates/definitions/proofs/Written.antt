@@ -1,11 +1,11 @@
 -- One writing after another: what the first call left is what the second found, and a refusal ends both.
-use Rattle.std.proofs.Common.{◌≡◌, ℕ, ◌≤◌, max, Bool, true, false, List, length, take, is_err, Some, None, Ok, Err, Option, Result, sym, refl, ap, ◌∙◌, subst, arith}
+use Rattle.std.proofs.Common.{◌≡◌, ℕ, ◌≤◌, max, true, List, length, take, is_err, None, Ok, Err, Result, sym, refl, ap, ◌∙◌, subst, arith}
 use Rattle.std.proofs.lemmas.List.{take-take}
 use Rattle.std.proofs.lemmas.Bool.{false≢true}
 use Rattle.definitions.specs.declared.operand.Operand.{Operand}
 use Rattle.definitions.specs.declared.operand.Definition.{Definition}
 use Rattle.definitions.specs.declared.combine.LimitReached.{LimitReached}
-use Rattle.definitions.specs.Combine.{State, Writing, give, onward, and_then, counted}
+use Rattle.definitions.specs.Combine.{Writing, give, onward, and_then, counted}
 use Rattle.definitions.specs.Writing.{seen, Wrote}
 
 take_less : {X : Type 0} (xs ys : List X) (m n : ℕ) → m ≤ n → take n xs ≡ take n ys → take m xs ≡ take m ys

@@ -1,5 +1,5 @@
 -- What a call that writes leaves in the slots that it was lent.
-use Rattle.std.specs.Prelude.{◌≡◌, ℕ, ◌≤◌, max, true, List, length, take, is_err, Some, None, Ok, Err, Option, Result}
+use Rattle.std.specs.Prelude.{◌≡◌, ℕ, ◌≤◌, max, List, length, take, Some, None, Ok, Err, Option, Result}
 use Rattle.definitions.specs.declared.operand.Operand.{Operand}
 use Rattle.definitions.specs.declared.operand.Definition.{Definition}
 use Rattle.definitions.specs.declared.combine.LimitReached.{LimitReached}

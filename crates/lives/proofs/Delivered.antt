@@ -15,7 +15,7 @@ use Rattle.definitions.specs.Sound.{blank, Legal}
 use Rattle.script.specs.Script.{known, reach}
 use Rattle.script.proofs.Soundness.{known_legal}
 use Rattle.evaluate.specs.Evaluation.{evaluation_refusal}
-use Rattle.delivery.specs.Lines.{start_line, definition_line, end_line, over}
+use Rattle.delivery.specs.Lines.{start_line, definition_line, end_line}
 use Rattle.delivery.specs.Calls.{buffer_refusal, begin_refusal, next_refusal, close_refusal, next_line}
 use Rattle.delivery.specs.ReadBack.{in_front, end_read, definitions_read}
 use Rattle.delivery.proofs.ReadBack.{definition_reads, end_line_reads}

@@ -3,7 +3,6 @@ use Rattle.std.proofs.Common.{◌≡◌, ℕ, ◌+◌, ◌-◌, ◌≤◌, List,
 use Rattle.std.proofs.lemmas.List.{length-append, take_at}
 use Rattle.rack.specs.declared.refusal.Refusal.TheVariants as refusal
 use Rattle.rack.specs.declared.way.WayRecord.{WayRecord}
-use Rattle.rack.specs.Way.{Way}
 use Rattle.table.specs.Kept.{kept, ways_of}
 use Rattle.definitions.specs.declared.operand.Operand.{Operand}
 use Rattle.definitions.specs.declared.operand.Definition.{Definition}

@@ -1,5 +1,5 @@
 -- No two parts share a rank: exchanging the digits twice gives the part again.
-use Rattle.std.proofs.Common.{◌≡◌, ℕ, ◌+◌, ◌*◌, ◌/◌, ◌%◌, ◌<◌, sym, ap, ◌∙◌, arith}
+use Rattle.std.proofs.Common.{◌≡◌, ℕ, ◌<◌, sym, ap, ◌∙◌, arith}
 use Rattle.rack.specs.Rank.{rank_of, Apart}
 
 again : (p : ℕ) → p < 256 → rank_of (rank_of p) ≡ p

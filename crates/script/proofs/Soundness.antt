@@ -1,5 +1,5 @@
 -- A script is sound when it is opened, and every accepted call keeps it so.
-use Rattle.std.proofs.Common.{◌≡◌, ℕ, ◌<◌, ◌≤◌, Bool, true, false, ◌&&◌, ltb, leb, List, [], length, take, is_err, Some, None, Ok, Err, Option, Result, sym, refl, ap, ◌∙◌, subst, arith}
+use Rattle.std.proofs.Common.{◌≡◌, ℕ, Bool, true, false, ltb, leb, List, [], length, take, Some, None, Ok, Err, Option, Result, sym, refl, subst, arith}
 use mathlib.Core.Logic.{∥∥₁_map}
 use Rattle.std.proofs.lemmas.Bool.{and_parts, ltb-true, leb-true}
 use Rattle.rack.specs.declared.refusal.Refusal.{Refusal}
@@ -9,13 +9,12 @@ use Rattle.definitions.specs.declared.operand.Operator.{Operator}
 use Rattle.definitions.specs.declared.operand.Operand.{Operand}
 use Rattle.definitions.specs.declared.operand.Operand.TheVariants.{Never, Always, Works, Out, Defined}
 use Rattle.definitions.specs.declared.operand.Definition.{Definition}
-use Rattle.definitions.specs.declared.combine.LimitReached.{LimitReached}
-use Rattle.definitions.specs.Combine.{State, Writing, choose, combining}
+use Rattle.definitions.specs.Combine.{State, choose, combining}
 use Rattle.definitions.specs.Sound.{Legal, Sound}
 use Rattle.definitions.specs.Writing.{Wrote}
 use Rattle.working.specs.declared.record.WorkingRecord.{WorkingRecord}
 use Rattle.working.specs.Gather.{needed}
-use Rattle.working.specs.Translation.{Outcome, Outcome.written, Outcome.refused, limited, outcome, shown}
+use Rattle.working.specs.Translation.{Outcome.written, Outcome.refused, limited}
 use Rattle.methods.specs.declared.translate.Method.{Method}
 use Rattle.methods.specs.Methods.{rule_of, Settled}
 use Rattle.laws.proofs.Soundly.{combine_sound, method_sound}

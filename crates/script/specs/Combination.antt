@@ -1,5 +1,5 @@
 -- What combine answers on a script: 11 for either operand first, and then by the rules within the limit.
-use Rattle.std.specs.Prelude.{◌≡◌, ℕ, true, ◌&&◌, List, length, is_err, Some, None, Ok, Err, Option, Result}
+use Rattle.std.specs.Prelude.{◌≡◌, ℕ, ◌&&◌, List, length, Some, None, Ok, Err, Option, Result}
 use Rattle.rack.specs.declared.refusal.Refusal.{Refusal}
 use Rattle.rack.specs.declared.refusal.Refusal.TheVariants.{LimitReached, NoSuchDefinition}
 use Rattle.definitions.specs.declared.operand.Operator.{Operator}

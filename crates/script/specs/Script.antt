@@ -1,5 +1,5 @@
 -- The definitions of a script, one of them by its number, and which operands it can read.
-use Rattle.std.specs.Prelude.{ℕ, ◌-◌, Bool, true, false, ◌&&◌, List, length, take, Ok, Err, Result, nat_le, nat_lt, slice_index_or}
+use Rattle.std.specs.Prelude.{ℕ, ◌-◌, Bool, true, ◌&&◌, List, length, take, Ok, Err, Result, nat_le, nat_lt, slice_index_or}
 use Rattle.rack.specs.declared.refusal.Refusal.{Refusal}
 use Rattle.rack.specs.declared.refusal.Refusal.TheVariants.{NoSuchDefinition}
 use Rattle.definitions.specs.declared.operand.Operand.{Operand}

@@ -1,5 +1,5 @@
 -- One line after another: a line that is no end is entered, and an end is closed by.
-use Rattle.std.proofs.Common.{◌≡◌, ℕ, ◌+◌, ◌<◌, ◌≤◌, Bool, true, false, List, [], ◌∷◌, ◌++◌, length, take, drop, set, Some, None, Ok, Err, Option, Result, sym, refl, ap, ◌∙◌, subst, arith, Bor}
+use Rattle.std.proofs.Common.{◌≡◌, ℕ, ◌+◌, ◌<◌, ◌≤◌, true, false, List, [], ◌∷◌, ◌++◌, length, take, drop, Some, None, Ok, Err, Option, Result, sym, refl, ap, ◌∙◌, subst, arith, Bor}
 use Rattle.std.proofs.lemmas.List.{length-map, length-set, length-take-le, take_more_set, map_push, drop-set-lt, drop-drop}
 use Rattle.std.proofs.lemmas.Bool.{true≢false, false≢true}
 use Rattle.rack.specs.declared.refusal.Position.{Position}
@@ -13,7 +13,7 @@ use Rattle.table.specs.declared.table.OpenTable.{OpenTable}
 use Rattle.table.specs.declared.table.Table.{Table}
 use Rattle.table.specs.declared.table.Unread.{Unread}
 use Rattle.table.specs.Kept.{ways_of}
-use Rattle.table.specs.Reading.{due_line, housed, entering, tallied, closing, Body, Body.enters, Body.ends, entered_by, ended_by, body_of, body_at, Reading, Reading.closed, Reading.stopped, tail_refusal, by_tail, after_end, read_body, read_lines, is_end}
+use Rattle.table.specs.Reading.{due_line, housed, entering, tallied, closing, Body, Body.enters, Body.ends, entered_by, ended_by, body_of, Reading, Reading.closed, Reading.stopped, tail_refusal, by_tail, after_end, read_body, read_lines, is_end}
 use Rattle.table.specs.Tables.{Opened, Entered, Unentered, close_refusal, Closed, read_table, unread_table, Filled, ways_so_far, body_from, UpToEnd}
 
 no_end : (entered room : ℕ) (r : Result Seen Refusal) → is_end r ≡ false → followed r (body_of entered room) ≡ entered_by (followed (followed r (way_of_frame (due_line entered))) (housed entered room))

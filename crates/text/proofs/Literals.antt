@@ -1,13 +1,13 @@
 -- One turn of each loop over a line: its digits, its bytes, its literals and their weights.
-use Rattle.std.proofs.Common.{◌≡◌, ℕ, zero, suc, ◌+◌, ◌-◌, ◌*◌, ◌/◌, ◌<◌, ◌≤◌, min, Bool, true, false, ◌&&◌, eqb, ltb, List, [], ◌∷◌, ◌++◌, length, get_or, take, drop, set, is_some, Some, None, Ok, Err, Option, Result, sym, refl, ap, ◌∙◌, append_assoc, append-nil, arith}
-use Rattle.std.proofs.lemmas.List.{at_drop_more, at_drop_all, drop_more, drop_all, take_more, take_more_set, drop-set-lt, drop-drop, length-drop, take_all, take_rest}
+use Rattle.std.proofs.Common.{◌≡◌, ℕ, zero, suc, ◌+◌, ◌-◌, ◌*◌, ◌/◌, ◌<◌, ◌≤◌, min, true, false, eqb, ltb, List, [], ◌∷◌, ◌++◌, length, get_or, take, drop, set, is_some, Some, None, Ok, Err, Option, Result, sym, refl, ap, ◌∙◌, append_assoc, append-nil, arith}
+use Rattle.std.proofs.lemmas.List.{at_drop_more, at_drop_all, drop_more, take_more, take_more_set, drop-set-lt, drop-drop, length-drop, take_all, take_rest}
 use Rattle.std.proofs.lemmas.Bool.{lt-ltb, le-ltb, eq-eqb, and_from}
 use Rattle.rack.specs.declared.part.Literal.{Literal}
 use Rattle.rack.specs.declared.part.Sign.{Sign}
 use Rattle.rack.specs.declared.refusal.Refusal.{Refusal}
 use Rattle.rack.specs.declared.refusal.Refusal.TheVariants.{LineLength, UnknownSign}
 use Rattle.rack.specs.Hex.{digit_of}
-use Rattle.rack.specs.Rank.{rank_of, weight_of}
+use Rattle.rack.specs.Rank.{weight_of}
 use Rattle.rack.specs.Way.{Way}
 use Rattle.text.specs.Digits.{byte_of, decoded, bad_from}
 use Rattle.text.specs.Frames.{choose, at, bad_length, by_digits, line_refusal, place, sign_of, literal, before, literals_from, misfit, literals_at, not_rising}

@@ -1,5 +1,5 @@
 -- The digits of a line, and the bytes that they stand for.
-use Rattle.std.specs.Prelude.{ℕ, ◌+◌, ◌*◌, Bool, true, false, List, [], ◌∷◌, is_some, Some, None, Option}
+use Rattle.std.specs.Prelude.{ℕ, ◌+◌, ◌*◌, List, [], ◌∷◌, Some, None, Option}
 use Rattle.std.specs.Option.{unwrap_or}
 use Rattle.rack.specs.Hex.{digit_of}
 

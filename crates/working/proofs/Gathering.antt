@@ -1,14 +1,14 @@
 -- The kept ways of a table, one record at a time: what they need, and where they go.
-use Rattle.std.proofs.Common.{◌≡◌, ℕ, ◌+◌, ◌-◌, ◌*◌, ◌<◌, ◌≤◌, Bool, true, false, cond, List, [], ◌∷◌, ◌++◌, length, get_or, take, drop, set, Some, None, Option, sym, refl, ap, ◌∙◌, append_assoc, append-nil, arith}
+use Rattle.std.proofs.Common.{◌≡◌, ℕ, ◌+◌, ◌-◌, ◌<◌, ◌≤◌, Bool, true, false, cond, List, [], ◌∷◌, ◌++◌, length, get_or, take, drop, set, Some, None, Option, sym, refl, ap, ◌∙◌, append_assoc, append-nil, arith}
 use Rattle.std.proofs.lemmas.List.{length-append, length-map, length-take-le, map_push, take_more, take_more_set, take_all, drop_more, drop-set-lt, take-append-drop}
 use Rattle.rack.specs.declared.part.Literal.{Literal}
 use Rattle.rack.specs.declared.way.WayRecord.{WayRecord}
 use Rattle.rack.specs.Way.{Way, way_of}
-use Rattle.table.specs.Kept.{keeps, kept_after, kept, literals, ways_of}
+use Rattle.table.specs.Kept.{keeps, kept_after, ways_of}
 use Rattle.table.proofs.KeptWays.{kept_at, kept_all}
 use Rattle.working.specs.declared.record.WorkingRecord.{WorkingRecord}
 use Rattle.working.specs.Records.{left_in, way_in, ways_in}
-use Rattle.working.specs.Gather.{needed, Held}
+use Rattle.working.specs.Gather.{needed}
 
 -- the kept ways from record i on
 abbrev pub onward : List WayRecord → ℕ → List Way

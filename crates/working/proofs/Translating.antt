@@ -1,20 +1,19 @@
 -- From what a method wrote of the kept ways to what its translation answers, whichever method it is.
-use Rattle.std.proofs.Common.{◌≡◌, ℕ, ◌-◌, ◌<◌, ◌≤◌, min, max, Bool, true, false, leb, List, length, take, Some, None, Ok, Err, Option, Result, sym, refl, ap, ◌∙◌, arith}
+use Rattle.std.proofs.Common.{◌≡◌, ℕ, ◌-◌, ◌≤◌, List, length, take, Ok, Err, sym, refl, ap, ◌∙◌, arith}
 use Rattle.std.proofs.lemmas.List.{length-take}
 use Rattle.std.proofs.lemmas.Bool.{le-leb, lt-leb}
-use Rattle.rack.specs.declared.refusal.Refusal.{Refusal}
 use Rattle.rack.specs.declared.refusal.Refusal.TheVariants as refusal
 use Rattle.rack.specs.Way.{Way}
 use Rattle.table.specs.Kept.{kept}
 use Rattle.definitions.specs.declared.operand.Operand.{Operand}
 use Rattle.definitions.specs.declared.operand.Definition.{Definition}
 use Rattle.definitions.specs.declared.combine.LimitReached.{LimitReached}
-use Rattle.definitions.specs.Combine.{State, Writing, choose, counted}
+use Rattle.definitions.specs.Combine.{choose}
 use Rattle.definitions.specs.Writing.{Wrote}
 use Rattle.working.specs.declared.record.WorkingRecord.{WorkingRecord}
 use Rattle.working.specs.Records.{ways_in}
 use Rattle.working.specs.Gather.{needed, Held, Short}
-use Rattle.working.specs.Translation.{Rule, Outcome, Outcome.written, Outcome.refused, limited, outcome, Translated}
+use Rattle.working.specs.Translation.{Rule, Outcome.written, Outcome.refused, limited, outcome, Translated}
 
 module _ (rule : Rule) (limit : ℕ) (ws : List Way) (lent left : List WorkingRecord) where
   pub told_short : {s : List Definition} {n : ℕ} → Short ws lent left → Translated rule limit ws lent left s n s n (Err refusal.MemoryShort)

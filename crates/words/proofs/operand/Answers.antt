@@ -1,5 +1,5 @@
 -- Four digits fit a definition's number.
-use Rattle.std.proofs.Common.{◌≡◌, ◌-◌, length, take, drop, arith}
+use Rattle.std.proofs.Common.{◌≡◌, length, take, drop, arith}
 use Rattle.std.proofs.lemmas.List.{length-take, length-drop}
 use Rattle.words.proofs.Numbers.{four_fit}
 use Rattle.words.proofs.operand.Goals as goal

@@ -1,5 +1,5 @@
 -- The finder looks at the definitions in hand; what it finds, or that there is room, decides.
-use Rattle.std.proofs.Common.{refl, ap, ◌∙◌, arith}
+use Rattle.std.proofs.Common.{refl, arith}
 use Rattle.std.proofs.lemmas.List.{length-set, take-set-le}
 use Rattle.definitions.proofs.Alike.{found_at, missing_at, full_at}
 use Rattle.definitions.proofs.combine.define.Goals as goal

@@ -1,5 +1,5 @@
 -- A turn works one definition out, by those before it; after the last there are no more to go on with.
-use Rattle.std.proofs.Common.{◌≡◌, ◌+◌, ◌<◌, [], map, length, take, drop, sym, ap, ◌∙◌, arith}
+use Rattle.std.proofs.Common.{◌≡◌, ◌+◌, ◌<◌, map, length, take, drop, sym, ap, ◌∙◌, arith}
 use Rattle.std.proofs.lemmas.List.{length-set, at_drop_all}
 use Rattle.algebra.specs.Worth.{values_after}
 use Rattle.evaluate.specs.Evaluation.{settings_of}

@@ -1,7 +1,6 @@
 -- There is a setting for every part.
-use Rattle.std.proofs.Common.{map, sym, ap, ◌∙◌, arith}
+use Rattle.std.proofs.Common.{sym, ap, ◌∙◌, arith}
 use Rattle.algebra.specs.Worth.{operand_worth}
-use Rattle.evaluate.specs.Evaluation.{settings_of}
 use Rattle.evaluate.proofs.Runs.{read_value}
 use Rattle.evaluate.proofs.lookup.operand_element.Goals as goal
 

@@ -1,5 +1,5 @@
 -- Each definition is due, and so is the end behind them.
-use Rattle.std.proofs.Common.{◌≡◌, ◌+◌, ◌<◌, ◌≤◌, length, vec_items, sym, refl, ap, ◌∙◌, arith}
+use Rattle.std.proofs.Common.{◌+◌, ◌<◌, ◌≤◌, vec_items, sym, refl, ap, ◌∙◌, arith}
 use Rattle.script.specs.Script.{reach}
 use Rattle.delivery.specs.Lines.{end_line}
 use Rattle.delivery.specs.Calls.{sources, next_line}

@@ -1,5 +1,5 @@
 -- Byte i is that of digits 2i and 2i + 1.
-use Rattle.std.proofs.Common.{◌≡◌, ◌+◌, ◌<◌, length, sym, ap, ◌∙◌, arith}
+use Rattle.std.proofs.Common.{◌<◌, length, arith}
 use Rattle.text.proofs.Literals.{put_byte, rest_stays}
 use Rattle.text.proofs.digits.decode.Goals as goal
 

@@ -1,5 +1,5 @@
 -- The front holds the bytes so far, and the rest is as it was.
-use Rattle.std.proofs.Common.{◌≡◌, length, take, drop}
+use Rattle.std.proofs.Common.{◌≡◌, take, drop}
 use Rattle.text.specs.Digits.{decoded}
 use Rattle.text.proofs.digits.decode.Given as goal
 

@@ -1,5 +1,5 @@
 -- Each kept way takes two records and one for each of its literals, and the first record is taken at the start.
-use Rattle.std.proofs.Common.{◌≡◌, true, false, sym, refl, ◌∙◌, arith}
+use Rattle.std.proofs.Common.{refl, arith}
 use Rattle.std.proofs.lemmas.Bool.{false≢true}
 use Rattle.working.proofs.Gathering.{spent, passed, lacks, none_left}
 use Rattle.working.proofs.gather.serves.Goals as goal

@@ -1,5 +1,5 @@
 -- The places so far are cleared, and the others are as they were.
-use Rattle.std.proofs.Common.{◌≡◌, ◌<◌, true, false, length, None, sym, ◌∙◌, arith, rules}
+use Rattle.std.proofs.Common.{◌<◌, true, false, length, None, sym, arith}
 use Rattle.working.proofs.Places.{is_at_decided, clears, spares_place, cleared_all}
 use Rattle.working.proofs.record.clear.Goals as goal
 use Rattle.working.proofs.record.clear.Goals.{then-same_place, else-same_place}

@@ -1,5 +1,5 @@
 -- An empty place is passed over.
-use Rattle.std.proofs.Common.{◌≡◌, ◌<◌, ◌≤◌, length, None, sym, ◌∙◌, arith, rules}
+use Rattle.std.proofs.Common.{None, sym, ◌∙◌, arith}
 use Rattle.std.proofs.lemmas.List.{at_drop_all}
 use Rattle.working.specs.Records.{left_in, first_of}
 use Rattle.working.proofs.Places.{first_at, first_later}

@@ -1,5 +1,5 @@
 -- Each place is compared with the wanted literal.
-use Rattle.std.proofs.Common.{◌≡◌, ◌<◌, ◌≤◌, true, false, length, None, sym, ◌∙◌, arith, rules}
+use Rattle.std.proofs.Common.{true, false, None, sym, ◌∙◌, arith}
 use Rattle.std.proofs.lemmas.List.{at_drop_all}
 use Rattle.table.specs.Kept.{holds}
 use Rattle.working.specs.Records.{left_in}

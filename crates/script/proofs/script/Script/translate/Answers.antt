@@ -1,5 +1,5 @@
 -- Whatever the method wrote keeps the script sound, and a refused translation leaves it as it was.
-use Rattle.std.proofs.Common.{length, ◌∙◌, arith}
+use Rattle.std.proofs.Common.{◌∙◌, arith}
 use Rattle.table.specs.Kept.{ways_of}
 use Rattle.script.proofs.Soundness.{settled_sound}
 use Rattle.script.proofs.script.Script.translate.Goals as goal
