@@ -1,5 +1,5 @@
 ghost use Rattle.std.specs.Prelude.{◌≡◌, ◌-◌};
-ghost use Rattle.script.specs.Script.{definitions_of, reach as reachOf};
+ghost use Rattle.script.specs.Script.{definitions_of, reach as reach_of};
 ghost use Rattle.delivery.specs.Calls.{close_refusal, Begun, Sent, Closed};
 
 use crate::delivery::Delivery;
@@ -13,7 +13,7 @@ pub const LINE_BUFFER: usize = 17;
 
 /// How many definitions an operand needs: its number where it is a definition, and otherwise 0.
 fn reach(operand: Operand) -> u16
-    ensures { result ≡ reachOf operand }
+    ensures { result ≡ reach_of operand }
 {
     match operand {
         Operand::Defined(number) => number.0,
@@ -50,7 +50,7 @@ impl<'a> Delivery<'a> {
 
     /// How many definitions are still to be sent.
     pub fn unsent(&self) -> usize
-        ensures { result ≡ reachOf self.now.operand - self.now.sent }
+        ensures { result ≡ reach_of self.now.operand - self.now.sent }
     {
         reach(self.operand) as usize - self.sent
     }

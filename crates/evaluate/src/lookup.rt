@@ -1,6 +1,6 @@
 ghost use Rattle.std.specs.Prelude.{◌≡◌, ◌-◌, map, length, slice_index_or};
 ghost use Rattle.algebra.specs.Worth.{operand_worth, definition_worth};
-ghost use Rattle.script.specs.Script.{reach as reachOf};
+ghost use Rattle.script.specs.Script.{reach as reach_of};
 ghost use Rattle.evaluate.specs.Evaluation.{settings_of};
 
 use algebra::boolean::BooleanAlgebra;
@@ -11,7 +11,7 @@ pub(crate) const SETTINGS: usize = 256;
 
 /// How many definitions an operand needs: its number where it is a definition, and otherwise 0.
 pub(crate) fn reach(operand: Operand) -> usize
-    ensures { result ≡ reachOf operand }
+    ensures { result ≡ reach_of operand }
 {
     match operand {
         Operand::Defined(number) => number.0 as usize,

@@ -1,7 +1,7 @@
 -- The heads of ways, one after another: what each is worth with its rests comes to what the ways are worth, and the heads and rests have no
 -- more literals than the ways. It goes by the first head, and then by the ways that begin otherwise.
 use Rattle.std.proofs.Common.{◌≡◌, ℕ, zero, suc, ◌+◌, ◌≤◌, Bool, true, false, ◌||◌, List, [], ◌∷◌, ◌++◌, sym, refl, ap, ◌∙◌, ap₂, arith}
-use Rattle.std.specs.List.{AllByRecursion as All}
+use Rattle.std.specs.List.{AllByRecursion}
 use Rattle.std.proofs.ByRecursion.{All-push, All-weaker}
 use Rattle.std.proofs.lemmas.Bool.{false≢true}
 use Rattle.rack.specs.declared.part.Literal.{Literal}
@@ -47,16 +47,16 @@ abbrev Not : Literal → Literal → Type 0
 Not h g = same_literal g h ≡ false
 
 -- no head of the others is h
-heads_not : (h : Literal) (ws : List Way) (gs : List Literal) → All (Not h) gs → All (Not h) (from gs (others_of h ws))
+heads_not : (h : Literal) (ws : List Way) (gs : List Literal) → AllByRecursion (Not h) gs → AllByRecursion (Not h) (from gs (others_of h ws))
 heads_not h [] gs a = a
 heads_not h ([] ∷ ws) gs a = heads_not h ws gs a
 heads_not h ((g ∷ w) ∷ ws) gs a = go (heads_not h ws) (same_literal g h) refl
   where
-    go : ((ls : List Literal) → All (Not h) ls → All (Not h) (from ls (others_of h ws))) → (t : Bool) → same_literal g h ≡ t → All (Not h) (from gs (choose t (others_of h ws) ((g ∷ w) ∷ others_of h ws)))
+    go : ((ls : List Literal) → AllByRecursion (Not h) ls → AllByRecursion (Not h) (from ls (others_of h ws))) → (t : Bool) → same_literal g h ≡ t → AllByRecursion (Not h) (from gs (choose t (others_of h ws) ((g ∷ w) ∷ others_of h ws)))
     go r true e = r gs a
     go r false e = new (is_in same_literal g gs)
       where
-        new : (u : Bool) → All (Not h) (choose u (from gs (others_of h ws)) (from (gs ++ g ∷ []) (others_of h ws)))
+        new : (u : Bool) → AllByRecursion (Not h) (choose u (from gs (others_of h ws)) (from (gs ++ g ∷ []) (others_of h ws)))
         new true = r gs a
         new false = r (gs ++ g ∷ []) (All-push (Not h) gs g a e)
 
@@ -81,7 +81,7 @@ module _ (h : Literal) (w : Way) (ws : List Way) where
   own : rests_of h all ≡ w ∷ rests_of h ws
   own = ap (λ t. choose t (w ∷ rests_of h ws) (rests_of h ws)) (literal_self h)
 
-  rest_alike : All (λ g. rests_of g all ≡ rests_of g (others_of h ws)) (heads (others_of h ws))
+  rest_alike : AllByRecursion (λ g. rests_of g all ≡ rests_of g (others_of h ws)) (heads (others_of h ws))
   rest_alike =
       All-weaker (Not h) (λ g. rests_of g all ≡ rests_of g (others_of h ws)) (λ g n. ap (λ t. choose t (w ∷ rests_of g ws) (rests_of g ws)) (other_way g h false n) ∙ rests_others h g n ws) (heads (others_of h ws))
       (heads_not h ws [] tt)
@@ -91,7 +91,7 @@ abbrev pub heads_literals : List Way → List Literal → ℕ
 heads_literals ws [] = 0
 heads_literals ws (h ∷ hs) = 1 + literals (rests_of h ws) + heads_literals ws hs
 
-literals_alike : (us ws : List Way) (hs : List Literal) → All (λ g. rests_of g us ≡ rests_of g ws) hs → heads_literals us hs ≡ heads_literals ws hs
+literals_alike : (us ws : List Way) (hs : List Literal) → AllByRecursion (λ g. rests_of g us ≡ rests_of g ws) hs → heads_literals us hs ≡ heads_literals ws hs
 literals_alike us ws [] a = refl
 literals_alike us ws (h ∷ hs) a = ap₂ (λ x n. 1 + literals x + n) a.0 (literals_alike us ws hs a.1)
 
@@ -120,7 +120,7 @@ module _ (A : Algebra) (L : Lattice A) (s : Settings A) where
   heads_worth ws [] = A.bottom
   heads_worth ws (h ∷ hs) = A.join (A.meet (literal_worth A s h) (ways_worth A s (rests_of h ws))) (heads_worth ws hs)
 
-  worth_alike : (us ws : List Way) (hs : List Literal) → All (λ g. rests_of g us ≡ rests_of g ws) hs → heads_worth us hs ≡ heads_worth ws hs
+  worth_alike : (us ws : List Way) (hs : List Literal) → AllByRecursion (λ g. rests_of g us ≡ rests_of g ws) hs → heads_worth us hs ≡ heads_worth ws hs
   worth_alike us ws [] a = refl
   worth_alike us ws (h ∷ hs) a = ap₂ (λ x v. A.join (A.meet (literal_worth A s h) (ways_worth A s x)) v) a.0 (worth_alike us ws hs a.1)
 

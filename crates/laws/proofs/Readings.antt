@@ -1,7 +1,7 @@
 -- Both readings of decomposition come to the same where no way is contradictory: a way that holds a part working does not hold it out, and
 -- the kinds of clean ways are clean.
 use Rattle.std.proofs.Common.{◌≡◌, ℕ, zero, suc, Bool, true, false, cond, not, ◌||◌, List, [], ◌∷◌, ◌++◌, map, filter, sym, refl, ap, ◌∙◌, arith}
-use Rattle.std.specs.List.{AllByRecursion as All}
+use Rattle.std.specs.List.{AllByRecursion}
 use Rattle.std.proofs.ByRecursion.{All-map, all_kept_by, All-weaker}
 use Rattle.std.proofs.lemmas.Bool.{false≢true, and_parts, or_parts, or_from, not-true}
 use Rattle.rack.specs.declared.part.Literal.{Literal}
@@ -35,11 +35,11 @@ clean_lacking h (l ∷ w) e = go (clean_lacking h w) (or_parts (holds (opposed l
     go a f true = a f.1
     go a f false = or_from (holds (opposed l) (lacking h w)) (contradictory (lacking h w)) (holds_lacking (opposed l) h w f.0) (a f.1)
 
-clean_under : (h : Literal) (ws : List Way) → All Clean ws → All Clean (under h ws)
+clean_under : (h : Literal) (ws : List Way) → AllByRecursion Clean ws → AllByRecursion Clean (under h ws)
 clean_under h ws a =
     All-map Clean (lacking h) (filter (holds h) ws) (all_kept_by (holds h) (λ w. Clean (lacking h w)) ws (All-weaker Clean (λ w. Clean (lacking h w)) (clean_lacking h) ws a))
 
-clean_beside : (h : Literal) (ws : List Way) → All Clean ws → All Clean (beside h ws)
+clean_beside : (h : Literal) (ws : List Way) → AllByRecursion Clean ws → AllByRecursion Clean (beside h ws)
 clean_beside h ws a = all_kept_by (λ w. not (holds h w)) Clean ws a
 
 turned_twice : (g : Sign) → turned (turned g) ≡ g
@@ -66,7 +66,7 @@ never_both h (l ∷ w) e f = go (never_both h w) (or_parts (holds (opposed l) w)
     go a b false i f false j = a b.1 f
 
 -- what is out among all ways is out among those that do not hold it working
-out_same : (v : Part) (ws : List Way) → All Clean ws → under (out_of v) ws ≡ under (out_of v) (beside (working_of v) ws)
+out_same : (v : Part) (ws : List Way) → AllByRecursion Clean ws → under (out_of v) ws ≡ under (out_of v) (beside (working_of v) ws)
 out_same v [] a = refl
 out_same v (w ∷ ws) a = go (out_same v ws a.1) (holds (working_of v) w) refl
   where
@@ -89,7 +89,7 @@ out_same v (w ∷ ws) a = go (out_same v ws a.1) (holds (working_of v) w) refl
 abbrev three : ℕ → Part → Writing → Writing → Writing → Writing
 three limit v x y z = and_then x (λ a. and_then y (λ b. and_then z (λ c. closing limit v a b c)))
 
-same_in : (limit n : ℕ) (ws : List Way) → All Clean ws → decompose_from_all_in limit n ws ≡ decompose_in limit n ws
+same_in : (limit n : ℕ) (ws : List Way) → AllByRecursion Clean ws → decompose_from_all_in limit n ws ≡ decompose_in limit n ws
 same_in limit zero ws a = refl
 same_in limit (suc n) [] a = refl
 same_in limit (suc n) ([] ∷ ws) a = refl
@@ -101,7 +101,7 @@ same_in limit (suc n) ((l ∷ w) ∷ ws) a = go (λ us c. same_in limit n us c) 
     goal : Bool → Type 0
     goal t = choose t (give Always) (by_part_from_all limit (decompose_from_all_in limit n) l.part all) ≡ by_start limit (decompose_in limit n) all (choose t (start_of ([] ∷ [])) (start_of ((l ∷ w) ∷ [])))
 
-    go : ((us : List Way) → All Clean us → decompose_from_all_in limit n us ≡ decompose_in limit n us) → (t : Bool) → goal t
+    go : ((us : List Way) → AllByRecursion Clean us → decompose_from_all_in limit n us ≡ decompose_in limit n us) → (t : Bool) → goal t
     go sub true = refl
     go sub false =
         let v = l.part in
@@ -112,14 +112,14 @@ same_in limit (suc n) ((l ∷ w) ∷ ws) a = go (λ us c. same_in limit n us c) 
         let e3 = sub (beside (out_of v) others) (clean_beside (out_of v) others clean) in
         λ i. three limit v (e1 i) (e2 i) (e3 i)
 
-kept_clean : (ws earlier : List Way) → All Clean (kept_after earlier ws)
+kept_clean : (ws earlier : List Way) → AllByRecursion Clean (kept_after earlier ws)
 kept_clean [] earlier = tt
 kept_clean (w ∷ ws) earlier = go (kept_clean ws (earlier ++ w ∷ [])) (keeps w earlier) refl
   where
     more : List Way
     more = kept_after (earlier ++ w ∷ []) ws
 
-    go : All Clean more → (t : Bool) → keeps w earlier ≡ t → All Clean (cond t (w ∷ more) more)
+    go : AllByRecursion Clean more → (t : Bool) → keeps w earlier ≡ t → AllByRecursion Clean (cond t (w ∷ more) more)
     go r true e = (not-true (contradictory w) (and_parts (not (contradictory w)) (not (among w earlier)) e).0, r)
     go r false e = r
 

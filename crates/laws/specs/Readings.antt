@@ -1,7 +1,7 @@
 -- Decomposition read another way: the ways that hold the part out are taken from all ways, and not only from those that do not hold it
 -- working. Both readings write the same where no way is contradictory, and so of kept ways; of a contradictory way they do not.
 use Rattle.std.specs.Prelude.{◌≡◌, ℕ, zero, suc, false, List, [], ◌∷◌, length, Some, None, Option}
-use Rattle.std.specs.List.{AllByRecursion as All}
+use Rattle.std.specs.List.{AllByRecursion}
 use Rattle.rack.specs.declared.part.Part.{Part}
 use Rattle.rack.specs.Way.{Way}
 use Rattle.table.specs.Kept.{contradictory, kept}
@@ -41,8 +41,8 @@ abbrev pub clashing : List Way
 clashing = (working_of (record { 0 = 1 }) ∷ out_of (record { 0 = 1 }) ∷ working_of (record { 0 = 2 }) ∷ []) ∷ []
 
 pub record ReadingsAgree : Type 0 where
-  pub same : (limit : ℕ) (ws : List Way) → All Clean ws → decomposing_from_all limit ws ≡ decomposing limit ws
-  pub clean : (ws : List Way) → All Clean (kept ws)
+  pub same : (limit : ℕ) (ws : List Way) → AllByRecursion Clean ws → decomposing_from_all limit ws ≡ decomposing limit ws
+  pub clean : (ws : List Way) → AllByRecursion Clean (kept ws)
   pub same_kept : (limit : ℕ) (ws : List Way) → decomposing_from_all limit (kept ws) ≡ decomposing limit (kept ws)
   -- three literals: the bound of two definitions does not hold of the other reading
   pub from_all : tally (decomposing_from_all 4096 clashing []) ≡ Some (numbered 5, 5)

@@ -1,7 +1,7 @@
 -- What the lines of a delivery read back as: each call leaves its line in the buffer's first bytes, and definitions in range read as
 -- themselves.
 use Rattle.std.proofs.Common.{◌≡◌, ℕ, ◌+◌, ◌-◌, ◌<◌, ◌≤◌, Bool, true, false, eqb, ltb, List, [], ◌∷◌, ◌++◌, map, length, get_or, take, drop, Some, None, Option, sym, refl, ap, ◌∙◌, arith}
-use Rattle.std.specs.List.{AllByRecursion as All}
+use Rattle.std.specs.List.{AllByRecursion}
 use Rattle.std.proofs.lemmas.List.{length_push, take-append-le, take_all, take_more, map-append, get_or_at}
 use Rattle.std.proofs.lemmas.Bool.{ltb-true, ltb-false}
 use Rattle.rack.specs.declared.refusal.Refusal.{Refusal}
@@ -79,7 +79,7 @@ left_line {line} {buffer} {after} {n} l =
     let rest = drop (length line) buffer in
     (λ i. take (l.length_is i) (l.line_is i)) ∙ take-append-le (length line) line rest (omega arith) ∙ take_all (length line) line (omega arith)
 
-lines_read : (es : List Definition) (x : Operand) → All DefinitionInRange es → definitions_read (map definition_line es ++ end_line x ∷ []) ≡ es
+lines_read : (es : List Definition) (x : Operand) → AllByRecursion DefinitionInRange es → definitions_read (map definition_line es ++ end_line x ∷ []) ≡ es
 lines_read [] x r = refl
 lines_read (d ∷ es) x r =
     ap (λ o. in_front o (definitions_read (map definition_line es ++ end_line x ∷ []))) (definition_reads d (number_fits d.first r.0.0) (number_fits d.second r.0.1))
@@ -118,7 +118,7 @@ module _ (ds : List Definition) where
         let all : p.sent ≡ reach p.operand = omega (arith, g.due) in
         (λ i. g.lines i ++ left_line l i ∷ []) ∙ ap (λ k. start_line (reach p.operand) ∷ (map definition_line (take k ds) ++ end_line p.operand ∷ [])) all
 
-    pub closed_reads : close_refusal p.operand p.sent buffer ≡ None → Left (end_line p.operand) buffer after n → All DefinitionInRange (take (reach p.operand) ds) → definitions_read (p.lines ++ take n after ∷ []) ≡ take (reach p.operand) ds
+    pub closed_reads : close_refusal p.operand p.sent buffer ≡ None → Left (end_line p.operand) buffer after n → AllByRecursion DefinitionInRange (take (reach p.operand) ds) → definitions_read (p.lines ++ take n after ∷ []) ≡ take (reach p.operand) ds
     closed_reads h l r = ap definitions_read (all_lines h l) ∙ lines_read (take (reach p.operand) ds) p.operand r
 
     pub closed_ends : Left (end_line p.operand) buffer after n → end_read (get_or (p.lines ++ take n after ∷ []) (length (p.lines ++ take n after ∷ []) - 1) []) ≡ Some p.operand

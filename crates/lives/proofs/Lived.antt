@@ -1,6 +1,6 @@
 -- Every life keeps its promise: by induction on the calls, with all that a later call needs to know of an earlier moment.
 use Rattle.std.proofs.Common.{◌≡◌, ℕ, zero, suc, ◌+◌, ◌-◌, ◌≤◌, Bool, true, false, ◌&&◌, leb, List, [], ◌∷◌, ◌++◌, length, take, drop, Some, None, Option, sym, refl, ap, ◌∙◌, subst, ap₂, arith}
-use Rattle.std.specs.List.{AllByRecursion as All}
+use Rattle.std.specs.List.{AllByRecursion}
 use Rattle.std.proofs.ByRecursion.{All-get_or, All-set, All-take, All-weaker}
 use Rattle.std.proofs.lemmas.List.{length-append, length-take-le, take-append-drop}
 use Rattle.std.proofs.lemmas.Bool.{and_parts}
@@ -25,7 +25,7 @@ use Rattle.laws.proofs.Shown.{combine_right, translation_right}
 use Rattle.laws.proofs.Values.{Extends, extends_legal, worth_kept}
 use Rattle.laws.proofs.Combined.{Each}
 use Rattle.lives.specs.Moments.{OpenDelivery, Call, Call.translate, Call.combine, Call.evaluate, Call.evaluate_elsewhere, Call.begin, Call.next, Call.close, Event, Event.translated, Event.combined, Event.evaluated, Event.evaluated_elsewhere, Event.begun, Event.gone_on, Event.closed, Event.struck, Event.turned_down, Moment, then_on, no_delivery, delivery_at, without}
-use Rattle.lives.specs.Life.{Refused, Life, Life.opening, Life.translating, Life.combining as combining-two, Life.evaluating, Life.evaluating_elsewhere, Life.beginning, Life.going_on, Life.closing, Life.striking, Life.refusing}
+use Rattle.lives.specs.Life.{Refused, Life, Life.opening, Life.translating, Life.combining as combining_two, Life.evaluating, Life.evaluating_elsewhere, Life.beginning, Life.going_on, Life.closing, Life.striking, Life.refusing}
 use Rattle.lives.specs.Promise.{EventRight, Promise, EveryLife}
 use Rattle.lives.proofs.Ranged.{DefinitionInRange, Fits, fit_combining, fit_rule, kept_ranged}
 use Rattle.lives.proofs.Delivered.{evaluate_known, reach_legal, legal_reach, Running, running_begun, running_on, closed_reads, closed_ends}
@@ -68,7 +68,7 @@ same_after A limit m (begin x buffer) e after r = r.1
 same_after A limit m (next i buffer) e after r = r.2
 same_after A limit m (close i buffer) e after r = r.2
 
-all_without : (P : OpenDelivery → Type 0) (ps : List OpenDelivery) (i : ℕ) → All P ps → All P (without ps i)
+all_without : (P : OpenDelivery → Type 0) (ps : List OpenDelivery) (i : ℕ) → AllByRecursion P ps → AllByRecursion P (without ps i)
 all_without P [] i a = tt
 all_without P (p ∷ ps) zero a = a.1
 all_without P (p ∷ ps) (suc i) a = (a.0, all_without P ps i a.1)
@@ -117,9 +117,9 @@ module _ (A : Algebra) (s : Settings A) where
   record Known (limit : ℕ) (m : Moment A.Value) : Type 0 where
     sound : Sound m.definitions
     within : length m.definitions ≤ counted (counted limit)
-    ranged : All DefinitionInRange m.definitions
-    events : All (Told m.definitions) m.history
-    running : All (Running m.definitions) m.deliveries
+    ranged : AllByRecursion DefinitionInRange m.definitions
+    events : AllByRecursion (Told m.definitions) m.history
+    running : AllByRecursion (Running m.definitions) m.deliveries
 
   -- the definitions grow, and one event more is told
   grown : (limit : ℕ) (m : Moment A.Value) (st : State) (e : Event A.Value) → Known limit m → m.deliveries ≡ [] → Extends m.definitions st.all → Sound st.all → Fits (counted limit) st → Told st.all e
@@ -129,11 +129,11 @@ module _ (A : Algebra) (s : Settings A) where
     within = f.within;
     ranged = f.ranged;
     events = (t, All-weaker (Told m.definitions) (Told st.all) (told_more x) m.history k.events);
-    running = subst (All (Running st.all)) (sym none) tt;
+    running = subst (AllByRecursion (Running st.all)) (sym none) tt;
   }
 
   -- they stay
-  stayed : (limit : ℕ) (m : Moment A.Value) (ps : List OpenDelivery) (e : Event A.Value) → Known limit m → All (Running m.definitions) ps → Told m.definitions e
+  stayed : (limit : ℕ) (m : Moment A.Value) (ps : List OpenDelivery) (e : Event A.Value) → Known limit m → AllByRecursion (Running m.definitions) ps → Told m.definitions e
       → Known limit (then_on m m.definitions ps e)
   stayed limit m ps e k a t = record { sound = k.sound; within = k.within; ranged = k.ranged; events = (t, k.events); running = a }
 
@@ -156,7 +156,7 @@ module _ (A : Algebra) (s : Settings A) where
         let long : length all ≡ length ds + length c.rest = ap length c.grows ∙ length-append ds c.rest in
         grown limit m st (translated ws x added ds all) k none (extends c) c.sound f
         (c.legal, record { value = c.value; new = c.rest; grew = c.grows; by_answer = omega (arith, by.1); few = omega (arith, by.1, c.few) })
-    lived (combining-two {m = m} l o a b st ra rb none e) =
+    lived (combining_two {m = m} l o a b st ra rb none e) =
         let k = lived l in
         let ds = m.definitions in
         let by = combined_by (known (length ds) a && known (length ds) b) ds (combining (counted limit) o a b ds) st e in

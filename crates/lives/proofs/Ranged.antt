@@ -1,6 +1,6 @@
 -- What is written stays within the limit as it counts and in range: combining does so, and each method only combines operands of its ways.
 use Rattle.std.proofs.Common.{◌≡◌, ℕ, zero, suc, ◌+◌, ◌<◌, ◌≤◌, Bool, true, false, cond, ltb, List, [], ◌∷◌, ◌++◌, length, Some, None, filter, Option, refl, arith}
-use Rattle.std.specs.List.{AllByRecursion as All}
+use Rattle.std.specs.List.{AllByRecursion}
 use Rattle.std.proofs.ByRecursion.{All-push, All-weaker, All-map, all_kept_by}
 use Rattle.std.proofs.lemmas.List.{length_push}
 use Rattle.std.proofs.lemmas.Bool.{ltb-true}
@@ -34,12 +34,12 @@ DefinitionInRange d = InRange d.first × InRange d.second
 -- within the limit as it counts, and all in range
 pub record Fits (limit : ℕ) (st : State) : Type 0 where
   pub within : length st.all ≤ counted limit
-  pub ranged : All DefinitionInRange st.all
+  pub ranged : AllByRecursion DefinitionInRange st.all
   pub answer : InRange st.answer
 
 -- what a writing leaves fits, where what it found does
 abbrev Fitting : ℕ → Writing → Type 0
-Fitting limit w = (ds : List Definition) → length ds ≤ counted limit → All DefinitionInRange ds → Each (Fits limit) (w ds)
+Fitting limit w = (ds : List Definition) → length ds ≤ counted limit → AllByRecursion DefinitionInRange ds → Each (Fits limit) (w ds)
 
 -- ---- combining
 abbrev AnswerInRange : Option Operand → Type 0
@@ -67,7 +67,7 @@ module _ (limit : ℕ) where
   fit_choose true u v h k = h
   fit_choose false u v h k = k
 
-  fit_add : (d : Definition) → DefinitionInRange d → (ds : List Definition) → length ds ≤ counted limit → All DefinitionInRange ds → (r : Option ℕ) → Finds d ds r → Each (Fits limit) (or_add limit d r ds)
+  fit_add : (d : Definition) → DefinitionInRange d → (ds : List Definition) → length ds ≤ counted limit → AllByRecursion DefinitionInRange ds → (r : Option ℕ) → Finds d ds r → Each (Fits limit) (or_add limit d r ds)
   fit_add d h ds l r (Some i) f = record { within = l; ranged = r; answer = omega arith }
   fit_add d h ds l r None f = go (ltb (length ds) (counted limit)) refl
     where

@@ -1,7 +1,7 @@
 -- What is promised of every life of a script, over an algebra and at all settings of the parts.
 -- ds are the definitions of the moment that is looked at: what was answered earlier holds by them too.
 use Rattle.std.specs.Prelude.{◌≡◌, ℕ, ◌-◌, ◌≤◌, List, [], ◌++◌, length, Some, slice_index_or}
-use Rattle.std.specs.List.{AllByRecursion as All}
+use Rattle.std.specs.List.{AllByRecursion}
 use Rattle.rack.specs.Way.{Way}
 use Rattle.table.specs.Kept.{kept, literals}
 use Rattle.definitions.specs.declared.operand.Operand.{Operand}
@@ -53,7 +53,7 @@ pub record Promise (A : Algebra) (s : Settings A) (limit : ℕ) (m : Moment A.Va
   pub sound : Sound m.definitions
   pub within_limit : length m.definitions ≤ counted limit
   pub at_most_4096 : length m.definitions ≤ 4096
-  pub events : All (EventRight A s m.definitions) m.history
+  pub events : AllByRecursion (EventRight A s m.definitions) m.history
 
 -- every life of every script, whatever its limit, at all settings
 abbrev pub EveryLife : Algebra → Type 0

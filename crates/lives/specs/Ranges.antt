@@ -1,6 +1,6 @@
 -- What calls can be handed: a part's number is a u8 and a definition's number a u16, in operands and in the literals of ways.
 use Rattle.std.specs.Prelude.{◌<◌, List}
-use Rattle.std.specs.List.{AllByRecursion as All}
+use Rattle.std.specs.List.{AllByRecursion}
 use Rattle.rack.specs.declared.part.Literal.{Literal}
 use Rattle.rack.specs.Way.{Way}
 use Rattle.definitions.specs.declared.operand.Operand.{Operand}
@@ -17,7 +17,7 @@ abbrev pub LiteralInRange : Literal → Type 0
 LiteralInRange l = l.part.0 < 256
 
 abbrev pub WayInRange : Way → Type 0
-WayInRange w = All LiteralInRange w
+WayInRange w = AllByRecursion LiteralInRange w
 
 abbrev pub WaysInRange : List Way → Type 0
-WaysInRange ws = All WayInRange ws
+WaysInRange ws = AllByRecursion WayInRange ws

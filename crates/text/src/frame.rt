@@ -1,7 +1,7 @@
 ghost use Rattle.std.specs.Prelude.{◌≡◌, ◌+◌, ◌<◌, ◌≤◌, length, IfSome, IfOk};
 ghost use Rattle.rack.specs.Rank.{rank_of};
 ghost use Rattle.rack.specs.Way.{way_of};
-ghost use Rattle.text.specs.Frames.{word_at, by_kind, frame_at, start_at, end_at, sign_of, literals_from, literals_at, not_rising, rising as risingAt, way_at};
+ghost use Rattle.text.specs.Frames.{word_at, by_kind, frame_at, start_at, end_at, sign_of, literals_from, literals_at, not_rising, rising as rising_at, way_at};
 ghost use Rattle.text.specs.Seen.{digits_of, seen, way_read};
 
 use crate::digits::{byte, check_line, decode, position};
@@ -149,7 +149,7 @@ pub fn way_of(text: &[u8], line: LineNumber) -> Result<WayRecord, Refusal>
 
 /// The way. Refuses the first literal whose weight is not above the one before (7).
 fn rising(way: WayRecord, line: LineNumber) -> Result<WayRecord, Refusal>
-    ensures { way_read result ≡ risingAt line.0 (way_of way) }
+    ensures { way_read result ≡ rising_at line.0 (way_of way) }
 {
     match first_not_rising(way.literals()) {
         Some(k) => Err(Refusal::NotRising(position(line, 5 + 4 * k))),

@@ -1,7 +1,7 @@
 -- The worked cases in one list, and the fact that covers it: each comes out as written down, by the definitions that translate's and
 -- evaluate's contracts cite.
 use Rattle.std.specs.Prelude.{◌≡◌, ℕ, ◌<◌, List, [], ◌∷◌, Ok, Err, Result, ◌==◌, slice_index_or}
-use Rattle.std.specs.List.{AllByRecursion as All}
+use Rattle.std.specs.List.{AllByRecursion}
 use Rattle.rack.specs.declared.refusal.Refusal.{Refusal}
 use Rattle.rack.specs.declared.refusal.Refusal.TheVariants.{LimitReached, MemoryShort}
 use Rattle.rack.specs.Way.{Way}
@@ -93,7 +93,7 @@ abbrev pub worked_settings : Settings sampled
 worked_settings part = samples (setting_of part)
 
 pub record Worked (A : Algebra) : Type 0 where
-  pub all_come_out : All ComesOut cases
+  pub all_come_out : AllByRecursion ComesOut cases
   pub merged : translated worked_table NodeMerging ≡ merged_script
   -- the last join is the other way round than in the order of the definitions
   pub sixth : slice_index_or (translated worked_table Decomposition) 5 blank ≡ defined Join (numbered 5) (numbered 4)

@@ -1,5 +1,5 @@
 ghost use Rattle.std.specs.Prelude.{◌≡◌, ◌≤◌, length, Decides};
-ghost use Rattle.table.specs.Kept.{kept as keptOf, ways_of};
+ghost use Rattle.table.specs.Kept.{kept as kept_of, ways_of};
 ghost use Rattle.working.specs.Records.{way_in};
 ghost use Rattle.working.specs.Gather.{needed as need_of, Gathered};
 
@@ -10,7 +10,7 @@ use table::kept::is_kept;
 
 /// Whether so many working records serve the kept ways: one, two for each way and one for each of its literals.
 fn serves(ways: &[WayRecord], records: usize) -> bool
-    ensures { Decides result (need_of (keptOf (ways_of ways.now)) ≤ records) }
+    ensures { Decides result (need_of (kept_of (ways_of ways.now)) ≤ records) }
 {
     if records == 0 {
         return false;
