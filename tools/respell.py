@@ -4,7 +4,7 @@
 usage: python3 tools/respell.py [FOLDER]      once, at the top of a repository that the kit's own script has just turned
 
 It goes by text. A name is the repository's own where specs/ or proofs/ declare it; what a file takes from a library, what the check names
-(goals, invariants, measures) and what Rust declares stay. Comments' code spans, pages and must-fail edits turn with the code. A name whose
+(goals, invariants, measures) and what Rust declares stay. A second run turns nothing. Comments' code spans, pages and must-fail edits turn with the code. A name whose
 new spelling stands in a file already is shown, since two names would fall together there.
 """
 import os
@@ -136,6 +136,9 @@ def spans(text, names):
 def main(argv):
     root = os.path.abspath(argv[0] if argv else ".")
     names = own_names(root)
+    if not names - set(BY_HAND):
+        print("respell: no name has the old spelling: nothing to do")
+        return
     for path in files(root, ".antt", ".rt", ".edit", ".md"):
         text = read(path)
         if path.endswith(".md"):

@@ -1,7 +1,7 @@
 -- The lives of a script: every order of calls that the borrow of a delivery allows, each answered as the contract of the call says.
 -- A script is opened with a limit; translate and combine change it, and wait until no delivery is open. What calls are handed is in range
 -- where the promise depends on it, and otherwise any numbers and any bytes.
-use Rattle.std.specs.Prelude.{◌≡◌, ℕ, ◌+◌, ◌<◌, List, [], ◌∷◌, ◌++◌, length, take, set, Some, None}
+use Rattle.std.specs.Prelude.{◌≡◌, ℕ, ◌+◌, ◌<◌, List, [], ◌∷◌, ◌++◌, length, take, slice_set, Some, None}
 use Rattle.rack.specs.declared.refusal.Refusal.{Refusal}
 use Rattle.rack.specs.Way.{Way}
 use Rattle.definitions.specs.declared.operand.Operator.{Operator}
@@ -60,7 +60,7 @@ pub data Life (A : Algebra) (limit : ℕ) : Moment A.Value → Type 0 where
       → Life A limit (then_on m m.definitions (record { operand = x; sent = 0; lines = take n after ∷ [] } ∷ m.deliveries) (begun x (take n after)))
   going_on : {m : Moment A.Value} → Life A limit m → (i : ℕ) (buffer after : List ℕ) (n : ℕ) → i < length m.deliveries
       → next_refusal (delivery_at m i).operand (delivery_at m i).sent buffer ≡ None → Left (next_line m.definitions (delivery_at m i).sent) buffer after n
-      → Life A limit (then_on m m.definitions (set m.deliveries i (record { operand = (delivery_at m i).operand; sent = (delivery_at m i).sent + 1; lines = (delivery_at m i).lines ++ take n after ∷ [] })) (gone_on (delivery_at m i).operand (take n after)))
+      → Life A limit (then_on m m.definitions (slice_set m.deliveries i (record { operand = (delivery_at m i).operand; sent = (delivery_at m i).sent + 1; lines = (delivery_at m i).lines ++ take n after ∷ [] })) (gone_on (delivery_at m i).operand (take n after)))
   closing : {m : Moment A.Value} → Life A limit m → (i : ℕ) (buffer after : List ℕ) (n : ℕ) → i < length m.deliveries
       → close_refusal (delivery_at m i).operand (delivery_at m i).sent buffer ≡ None → Left (end_line (delivery_at m i).operand) buffer after n
       → Life A limit (then_on m m.definitions (without m.deliveries i) (closed (delivery_at m i).operand ((delivery_at m i).lines ++ take n after ∷ [])))

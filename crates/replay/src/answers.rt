@@ -6,14 +6,14 @@ use std::alloc::{AllocError, Global};
 
 /// The answers so far, and whether memory was wanting for one of them.
 #[derive(Drop)]
-pub(crate) struct Answers {
+pub struct Answers {
     bytes: Vec<u8>,
     wanting: bool,
 }
 
 impl Answers {
     /// No answers yet.
-    pub(crate) fn new(heap: Global) -> Answers {
+    pub fn new(heap: Global) -> Answers {
         Answers {
             bytes: Vec::new(heap),
             wanting: false,
@@ -21,7 +21,7 @@ impl Answers {
     }
 
     /// All answers; an error where memory was wanting for one.
-    pub(crate) fn written(&self) -> Result<&[u8], AllocError> {
+    pub fn written(&self) -> Result<&[u8], AllocError> {
         if self.wanting {
             Err(AllocError)
         } else {
@@ -30,30 +30,30 @@ impl Answers {
     }
 
     /// Notes that memory was wanting.
-    pub(crate) fn want(&mut self) {
+    pub fn want(&mut self) {
         self.wanting = true;
     }
 
     /// Adds bytes of an answer.
-    pub(crate) fn put(&mut self, bytes: &[u8]) {
+    pub fn put(&mut self, bytes: &[u8]) {
         if let Err(_) = self.bytes.extend_from_slice(bytes) {
             self.wanting = true;
         }
     }
 
     /// Adds a whole answer, with its 0A.
-    pub(crate) fn say(&mut self, answer: &[u8]) {
+    pub fn say(&mut self, answer: &[u8]) {
         self.put(answer);
         self.put(b"\n");
     }
 
     /// Adds the six digits of an operand.
-    pub(crate) fn put_operand(&mut self, operand: Operand) {
+    pub fn put_operand(&mut self, operand: Operand) {
         self.put(&operand_digits(operand));
     }
 
     /// Adds a number in decimal.
-    pub(crate) fn put_decimal(&mut self, n: usize) {
+    pub fn put_decimal(&mut self, n: usize) {
         let mut digits = [0u8; 20];
         let mut left = n;
         let mut at = 20;
@@ -68,7 +68,7 @@ impl Answers {
     }
 
     /// Adds the line that tells a refusal.
-    pub(crate) fn tell(&mut self, refusal: Refusal) {
+    pub fn tell(&mut self, refusal: Refusal) {
         self.put(&refusal_line(refusal));
     }
 }

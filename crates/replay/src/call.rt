@@ -4,7 +4,7 @@ use words::{Words, decimal, method, operand};
 
 /// The algebras that a line can name.
 #[derive(Clone, Copy)]
-pub(crate) enum Named {
+pub enum Named {
     One,
     Drawn,
     Outage,
@@ -12,26 +12,26 @@ pub(crate) enum Named {
 
 /// A translation: its method, how many records of both kinds it is lent, and its table, the lines joined by `/`.
 #[derive(Clone, Copy)]
-pub(crate) struct Translation<'a> {
-    pub(crate) method: Method,
-    pub(crate) way_records: usize,
-    pub(crate) working_records: usize,
-    pub(crate) table: &'a [u8],
+pub struct Translation<'a> {
+    pub method: Method,
+    pub way_records: usize,
+    pub working_records: usize,
+    pub table: &'a [u8],
 }
 
 /// An evaluation: its algebra and operand, how many settings and elements it is lent, and the settings that are named.
 #[derive(Clone, Copy)]
-pub(crate) struct Evaluation<'a> {
-    pub(crate) algebra: Named,
-    pub(crate) operand: Operand,
-    pub(crate) settings: usize,
-    pub(crate) elements: usize,
-    pub(crate) values: &'a [u8],
+pub struct Evaluation<'a> {
+    pub algebra: Named,
+    pub operand: Operand,
+    pub settings: usize,
+    pub elements: usize,
+    pub values: &'a [u8],
 }
 
 /// One call, with what it is handed. A delivery is named by its place, from 1, and a buffer by its length.
 #[derive(Clone, Copy)]
-pub(crate) enum Call<'a> {
+pub enum Call<'a> {
     Open(usize),
     Translate(Translation<'a>),
     Combine(Operator, Operand, Operand),
@@ -85,7 +85,7 @@ fn evaluation_of<'a>(words: &mut Words<'a>) -> Option<Call<'a>> {
 }
 
 /// The call of a line; none where the line is no call.
-pub(crate) fn call_of<'a>(line: &'a [u8]) -> Option<Call<'a>> {
+pub fn call_of<'a>(line: &'a [u8]) -> Option<Call<'a>> {
     let mut words = Words::new(line);
     match words.next_word() {
         b"open" => Some(Call::Open(decimal(words.next_word())?)),

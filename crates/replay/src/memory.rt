@@ -113,12 +113,7 @@ fn evaluate_over<A: Numbered>(
 }
 
 /// Evaluates over the algebra that is named.
-pub(crate) fn evaluate_named(
-    heap: Global,
-    script: &Script,
-    asked: Evaluation<'_>,
-    answers: &mut Answers,
-) {
+pub fn evaluate_named(heap: Global, script: &Script, asked: Evaluation<'_>, answers: &mut Answers) {
     let done = match asked.algebra {
         Named::One => evaluate_over::<OneState>(heap, script, asked, answers),
         Named::Drawn => evaluate_over::<SampledStates>(heap, script, asked, answers),
@@ -148,7 +143,7 @@ fn translate_table(
 }
 
 /// Translates a table, and answers the operand and the number of definitions added.
-pub(crate) fn translate_into(
+pub fn translate_into(
     heap: Global,
     script: &mut Script,
     asked: Translation<'_>,

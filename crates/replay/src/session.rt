@@ -197,7 +197,7 @@ fn lives(heap: Global, limit: usize, lines: &mut Lines<'_>, answers: &mut Answer
 }
 
 /// Waits for the first script to be opened.
-pub(crate) fn idle(heap: Global, lines: &mut Lines<'_>, answers: &mut Answers) {
+pub fn idle(heap: Global, lines: &mut Lines<'_>, answers: &mut Answers) {
     while let Some(line) = lines.next_line() {
         if let Some(Call::Open(limit)) = call_of(line) {
             lives(heap, limit, lines, answers);
