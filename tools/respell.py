@@ -4,8 +4,8 @@
 usage: python3 tools/respell.py [FOLDER]      once, at the top of a repository that the kit's own script has just turned
 
 It goes by text. A name is the repository's own where specs/ or proofs/ declare it; what a file takes from a library, what the check names
-(goals, invariants, measures) and what Rust declares stay. A second run turns nothing. Comments' code spans, pages and must-fail edits turn with the code. A name whose
-new spelling stands in a file already is shown, since two names would fall together there.
+(goals, invariants, measures) and what Rust declares stay. Comments' code spans, pages and must-fail edits turn with the code. A name whose
+new spelling stands in a file already is shown, since two names would fall together there. A second run turns nothing.
 """
 import os
 import re

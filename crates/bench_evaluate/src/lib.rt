@@ -1,4 +1,4 @@
-//! What the bench links: a script of 4,096 definitions, evaluated on sampled states as often as is asked.
+//! What the bench times: a script of 4,096 definitions, evaluated on sampled states as often as is asked.
 #![tactic(auto)]
 
 use algebra::sampled::SampledStates;
@@ -37,8 +37,7 @@ fn write(script: &mut Script, i: usize, last: Operand) -> Operand {
 
 /// Builds the script, evaluates its last definition in each round, and answers what the rounds gave, folded into one number. A round
 /// sets one part by what came before, so that no round is like another.
-#[unsafe(no_mangle)]
-pub extern "C" fn bench_evaluate(rounds: u64, seed: u64) -> u64 {
+pub fn bench_evaluate(rounds: u64, seed: u64) -> u64 {
     let mut script = Script::open(4096);
     let mut last = Operand::Works(Part(255));
     for i in 0..4096 {
