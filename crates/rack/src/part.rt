@@ -1,4 +1,6 @@
-use crate::find::Same;
+ghost use Rattle.std.proofs.Common.{rules};
+
+use crate::find::Exact;
 
 /// A part of the rack by its number, 00 to FF: the first digit is its unit, the second its stage.
 #[derive(Clone, Copy, PartialEq)]
@@ -26,8 +28,6 @@ impl Literal {
     };
 }
 
-impl Same for Literal {
-    fn same(&self, other: &Literal) -> bool {
-        *self == *other
-    }
+impl Exact for Literal {
+    ghost exact = { Prim.search rules };
 }
