@@ -1,5 +1,5 @@
 -- Operands and definitions are alike exactly where they are equal, so what the finder says decides what `defining` gives.
-use Rattle.std.proofs.Common.{◌≡◌, ℕ, zero, suc, ◌+◌, ◌-◌, ◌<◌, ◌≤◌, min, Bool, false, eqb, ltb, ◌⊎◌, List, [], ◌∷◌, ◌++◌, length, take, set, Some, None, Decides, Option, sym, refl, ap, ◌∙◌, subst, inl, inr, arith}
+use Rattle.std.proofs.Common.{◌≡◌, ℕ, zero, suc, ◌+◌, ◌<◌, ◌≤◌, min, Bool, false, eqb, ltb, ◌⊎◌, List, [], ◌∷◌, ◌++◌, length, take, set, Some, None, Decides, Option, sym, refl, ap, ◌∙◌, subst, inl, inr, arith}
 use Rattle.std.proofs.lemmas.List.{length-take, length-take-le, take_all, take_more_set}
 use Rattle.std.proofs.lemmas.Bool.{lt-ltb, le-ltb, cases_lt}
 use Rattle.std.proofs.lemmas.Bool.Decides.{Decides-and, Decides-eqb, Decides-like}
@@ -72,21 +72,21 @@ abbrev adding : Bool → Definition → List Definition → Option State
 adding t d ds = choose t (give (numbered (length ds + 1)) (ds ++ d ∷ [])) None
 
 -- slots are 4,096, and so many at most are looked at
-pub front : (n k : ℕ) (vs : List Definition) → k ≡ min n 4096 → length vs ≡ 4096 → take (k - 0) vs ≡ take n vs
+pub front : (n k : ℕ) (vs : List Definition) → k ≡ min n 4096 → length vs ≡ 4096 → take k vs ≡ take n vs
 front n k vs e long = by (cases_lt 4096 n)
   where
-    by : (4096 < n) ⊎ (n ≤ 4096) → take (k - 0) vs ≡ take n vs
-    by (inr h) = let same : k - 0 ≡ n = omega arith in ap (λ m. take m vs) same
-    by (inl h) = take_all (k - 0) vs (omega arith) ∙ sym (take_all n vs (omega arith))
+    by : (4096 < n) ⊎ (n ≤ 4096) → take k vs ≡ take n vs
+    by (inr h) = let same : k ≡ n = omega arith in ap (λ m. take m vs) same
+    by (inl h) = take_all k vs (omega arith) ∙ sym (take_all n vs (omega arith))
 
 module _ (limit : ℕ) (vs : List Definition) (n k : ℕ) (d : Definition) (clipped : k ≡ min n 4096) (long : length vs ≡ 4096) where
-  pub found_at : (i : ℕ) → FirstAt (take (k - 0) vs) d i → give (numbered (i + 1)) (take n vs) ≡ defining limit d (take n vs)
+  pub found_at : (i : ℕ) → FirstAt (take k vs) d i → give (numbered (i + 1)) (take n vs) ≡ defining limit d (take n vs)
   found_at i h = sym (ap (λ o. or_add limit d o (take n vs)) (found (take n vs) i d (subst (λ ds. FirstAt ds d i) (front n k vs clipped long) h)))
 
-  none : Nowhere (take (k - 0) vs) d → defining limit d (take n vs) ≡ adding (ltb (length (take n vs)) (counted limit)) d (take n vs)
+  none : Nowhere (take k vs) d → defining limit d (take n vs) ≡ adding (ltb (length (take n vs)) (counted limit)) d (take n vs)
   none h = ap (λ o. or_add limit d o (take n vs)) (missing (take n vs) d (subst (λ ds. Nowhere ds d) (front n k vs clipped long) h))
 
-  pub missing_at : k < counted limit → Nowhere (take (k - 0) vs) d → give (numbered (k + 1)) (take (k + 1) (set vs k d)) ≡ defining limit d (take n vs)
+  pub missing_at : k < counted limit → Nowhere (take k vs) d → give (numbered (k + 1)) (take (k + 1) (set vs k d)) ≡ defining limit d (take n vs)
   missing_at room h =
       let same : k ≡ n = omega arith in
       let fill : length (take n vs) ≡ k = length-take-le n vs (omega arith) ∙ sym same in
@@ -95,7 +95,7 @@ module _ (limit : ℕ) (vs : List Definition) (n k : ℕ) (d : Definition) (clip
       ∙ ap (λ m. give (numbered (length (take n vs) + 1)) (take m vs ++ d ∷ [])) same
       ∙ sym (none h ∙ ap (λ t. adding t d (take n vs)) (lt-ltb (length (take n vs)) (counted limit) (omega arith)))
 
-  pub full_at : counted limit ≤ k → Nowhere (take (k - 0) vs) d → None ≡ defining limit d (take n vs)
+  pub full_at : counted limit ≤ k → Nowhere (take k vs) d → None ≡ defining limit d (take n vs)
   full_at full h =
       let fill : length (take n vs) ≡ min n (length vs) = length-take n vs in
       sym (none h ∙ ap (λ t. adding t d (take n vs)) (le-ltb (length (take n vs)) (counted limit) (omega arith)))

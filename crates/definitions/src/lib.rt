@@ -2,4 +2,5 @@
 #![tactic(auto)]
 
 pub mod combine;
+pub mod draft;
 pub mod operand;

@@ -1,6 +1,6 @@
-ghost use Rattle.std.specs.Prelude.{◌≡◌, Decides};
+ghost use Rattle.std.proofs.Common.{rules};
 
-use rack::find::Same;
+use rack::find::Exact;
 use rack::part::Part;
 
 /// The most definitions that a script holds.
@@ -44,17 +44,12 @@ impl Definition {
     };
 }
 
-/// Whether two operands are the same.
-fn same_operand(a: &Operand, b: &Operand) -> bool
-    ensures { Decides result (a.now ≡ b.now) }
-{
-    *a == *b
+impl Exact for Operand {
+    ghost exact = { Prim.search rules };
 }
 
-impl Same for Definition {
-    fn same(&self, other: &Definition) -> bool {
-        self.operator == other.operator
-            && same_operand(&self.first, &other.first)
-            && same_operand(&self.second, &other.second)
-    }
+impl Exact for Definition {
+    ghost use Rattle.definitions.specs.Exact.{exact_by_parts};
+
+    ghost exact = { exact_by_parts ⟦<Operator as PartialEq>⟧.eq ⟦<Operand as PartialEq>⟧.eq (Prim.search rules) (Prim.search rules) };
 }
