@@ -1,5 +1,10 @@
--- Operands by kind and number, operators by code, and when two operands or two definitions are the same.
+-- Operands by kind and number, by the definitions they need and by the literal they stand for; operators by code; and when two operands
+-- or two definitions are the same.
 use Rattle.std.specs.Prelude.{ℕ, Bool, cond, ◌&&◌, Some, None, Option, ◌==◌, nat_lt}
+use Rattle.rack.specs.declared.part.Literal.{Literal}
+use Rattle.rack.specs.declared.part.Part.{Part}
+use Rattle.rack.specs.declared.part.Sign.{Sign}
+use Rattle.rack.specs.declared.part.Sign.TheVariants as sign
 use Rattle.definitions.specs.declared.operand.Operator.{Operator}
 use Rattle.definitions.specs.declared.operand.Operator.TheVariants.{Meet, Join}
 use Rattle.definitions.specs.declared.operand.Operand.{Operand}
@@ -20,6 +25,22 @@ number Always = 0
 number (Works p) = p.0
 number (Out p) = p.0
 number (Defined n) = n.0
+
+-- how many definitions an operand needs: its number where it is a definition, and otherwise 0
+abbrev pub reach : Operand → ℕ
+reach Never = 0
+reach Always = 0
+reach (Works p) = 0
+reach (Out p) = 0
+reach (Defined k) = k.0
+
+abbrev pub signed : Sign → Part → Operand
+signed sign.Works p = Works p
+signed sign.Out p = Out p
+
+-- the operand of a literal
+abbrev pub operand_of : Literal → Operand
+operand_of l = signed l.sign l.part
 
 abbrev pub code : Operator → ℕ
 code Meet = 0

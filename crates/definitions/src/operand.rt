@@ -1,7 +1,9 @@
+ghost use Rattle.std.specs.Prelude.{◌≡◌};
 ghost use Rattle.std.proofs.Common.{rules};
+ghost use Rattle.definitions.specs.Operands.{kind, number, code, reach, operand_of};
 
 use rack::find::Exact;
-use rack::part::Part;
+use rack::part::{Literal, Part, Sign};
 
 /// The most definitions that a script holds.
 pub const CAPACITY: usize = 4096;
@@ -17,6 +19,15 @@ pub enum Operator {
     Join,
 }
 
+impl From<Operator> for u8 {
+    ghost from_gives = { λ o c. c ≡ code o };
+
+    /// The code of an operator, as a line writes it.
+    fn from(operator: Operator) -> u8 {
+        operator as u8
+    }
+}
+
 /// What a definition is made of, and what a translation answers.
 #[derive(Clone, Copy, PartialEq)]
 pub enum Operand {
@@ -25,6 +36,54 @@ pub enum Operand {
     Works(Part),
     Out(Part),
     Defined(DefinitionNumber),
+}
+
+impl Operand {
+    /// How many definitions the operand needs: its number where it is a definition, and otherwise 0.
+    pub fn reach(self) -> u16
+        ensures { result ≡ reach self }
+    {
+        match self {
+            Operand::Defined(number) => number.0,
+            _ => 0,
+        }
+    }
+
+    /// The operand's kind, as a line writes it.
+    pub fn kind(self) -> u8
+        ensures { result ≡ kind self }
+    {
+        match self {
+            Operand::Never => 0,
+            Operand::Always => 1,
+            Operand::Works(_) => 2,
+            Operand::Out(_) => 3,
+            Operand::Defined(_) => 4,
+        }
+    }
+
+    /// The operand's number, as a line writes it: of its part or of its definition, and 0 for a constant.
+    pub fn number(self) -> u16
+        ensures { result ≡ number self }
+    {
+        match self {
+            Operand::Never | Operand::Always => 0,
+            Operand::Works(part) | Operand::Out(part) => u16::from(part.0),
+            Operand::Defined(number) => number.0,
+        }
+    }
+}
+
+impl From<Literal> for Operand {
+    ghost from_gives = { λ l x. x ≡ operand_of l };
+
+    /// The operand of a literal: its part, which works or is out.
+    fn from(literal: Literal) -> Operand {
+        match literal.sign {
+            Sign::Works => Operand::Works(literal.part),
+            Sign::Out => Operand::Out(literal.part),
+        }
+    }
 }
 
 /// The meet or join of two earlier things.

@@ -4,10 +4,11 @@ use Rattle.rack.specs.declared.refusal.Refusal.{Refusal}
 use Rattle.rack.specs.declared.refusal.Refusal.TheVariants.{NoSuchDefinition, BufferShort, OutOfTurn}
 use Rattle.definitions.specs.declared.operand.Operand.{Operand}
 use Rattle.definitions.specs.declared.operand.Definition.{Definition}
+use Rattle.definitions.specs.Operands.{reach}
 use Rattle.definitions.specs.Combine.{choose}
 use Rattle.definitions.specs.Sound.{blank}
 use Rattle.script.specs.declared.script.Script.{Script}
-use Rattle.script.specs.Script.{definitions_of, known, reach}
+use Rattle.script.specs.Script.{definitions_of, known}
 use Rattle.delivery.specs.declared.delivery.Delivery.{Delivery}
 use Rattle.delivery.specs.Lines.{start_line, definition_line, end_line, over}
 

@@ -1,5 +1,6 @@
 ghost use Rattle.std.specs.Prelude.{◌≡◌, ◌-◌};
-ghost use Rattle.script.specs.Script.{definitions_of, reach as reach_of};
+ghost use Rattle.definitions.specs.Operands.{reach};
+ghost use Rattle.script.specs.Script.{definitions_of};
 ghost use Rattle.delivery.specs.Calls.{close_refusal, Begun, Sent, Closed};
 
 use crate::delivery::Delivery;
@@ -10,16 +11,6 @@ use script::script::Script;
 
 /// The longest line of a delivery, with its 0A; a shorter buffer is refused.
 pub const LINE_BUFFER: usize = 17;
-
-/// How many definitions an operand needs: its number where it is a definition, and otherwise 0.
-fn reach(operand: Operand) -> u16
-    ensures { result ≡ reach_of operand }
-{
-    match operand {
-        Operand::Defined(number) => number.0,
-        _ => 0,
-    }
-}
 
 impl<'a> Delivery<'a> {
     /// Begins a delivery: writes the start line, and answers the delivery and the line's length. Refuses an operand that the script
@@ -37,7 +28,7 @@ impl<'a> Delivery<'a> {
         if line.len() < LINE_BUFFER {
             return Err(Refusal::BufferShort);
         }
-        put_front(line, &start_line(reach(operand)));
+        put_front(line, &start_line(operand.reach()));
         Ok((
             Delivery {
                 script,
@@ -50,9 +41,9 @@ impl<'a> Delivery<'a> {
 
     /// How many definitions are still to be sent.
     pub fn unsent(&self) -> usize
-        ensures { result ≡ reach_of self.now.operand - self.now.sent }
+        ensures { result ≡ reach self.now.operand - self.now.sent }
     {
-        reach(self.operand) as usize - self.sent
+        usize::from(self.operand.reach()) - self.sent
     }
 
     /// Writes the next definition's line, and answers its length. Refuses where all are sent (15), then a short buffer (14).

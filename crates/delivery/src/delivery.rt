@@ -1,5 +1,6 @@
 ghost use Rattle.std.specs.Prelude.{◌≡◌, ◌≤◌, true, length};
-ghost use Rattle.script.specs.Script.{definitions_of, known, reach};
+ghost use Rattle.definitions.specs.Operands.{reach};
+ghost use Rattle.script.specs.Script.{definitions_of, known};
 
 use definitions::operand::Operand;
 use script::script::Script;

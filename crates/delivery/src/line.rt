@@ -1,50 +1,15 @@
 ghost use Rattle.std.specs.Prelude.{◌≡◌, ◌≤◌, length};
-ghost use Rattle.definitions.specs.Operands.{kind, number, code};
 ghost use Rattle.delivery.specs.Lines.{operand_digits, start_line, definition_line, end_line, over};
 
-use definitions::operand::{Definition, Operand, Operator};
+use definitions::operand::{Definition, Operand};
 use rack::hex::{hex_byte, hex_word};
-
-/// The code of an operator.
-fn operator_code(operator: Operator) -> u8
-    ensures { result ≡ code operator }
-{
-    match operator {
-        Operator::Meet => 0,
-        Operator::Join => 1,
-    }
-}
-
-/// The code of an operand's kind.
-fn kind_code(operand: Operand) -> u8
-    ensures { result ≡ kind operand }
-{
-    match operand {
-        Operand::Never => 0,
-        Operand::Always => 1,
-        Operand::Works(_) => 2,
-        Operand::Out(_) => 3,
-        Operand::Defined(_) => 4,
-    }
-}
-
-/// An operand's number: of its part or of its definition, and 0 for a constant.
-fn operand_number(operand: Operand) -> u16
-    ensures { result ≡ number operand }
-{
-    match operand {
-        Operand::Never | Operand::Always => 0,
-        Operand::Works(part) | Operand::Out(part) => u16::from(part.0),
-        Operand::Defined(number) => number.0,
-    }
-}
 
 /// The six digits of an operand: two of kind and four of number.
 pub fn operand_digits(operand: Operand) -> [u8; 6]
     ensures { result ≡ operand_digits operand }
 {
-    let [a, b] = hex_byte(kind_code(operand));
-    let [c, d, e, f] = hex_word(operand_number(operand));
+    let [a, b] = hex_byte(operand.kind());
+    let [c, d, e, f] = hex_word(operand.number());
     [a, b, c, d, e, f]
 }
 
@@ -60,7 +25,7 @@ pub fn start_line(definitions: u16) -> [u8; 7]
 pub fn definition_line(definition: Definition) -> [u8; 17]
     ensures { result ≡ definition_line definition }
 {
-    let [o, p] = hex_byte(operator_code(definition.operator));
+    let [o, p] = hex_byte(u8::from(definition.operator));
     let [a, b, c, d, e, f] = operand_digits(definition.first);
     let [g, h, i, j, k, l] = operand_digits(definition.second);
     [b'5', b'0', o, p, a, b, c, d, e, f, g, h, i, j, k, l, 0x0A]

@@ -6,8 +6,9 @@ use Rattle.rack.specs.declared.refusal.Refusal.{Refusal}
 use Rattle.rack.specs.declared.refusal.Refusal.TheVariants.{NoSuchDefinition, WrongSettings, MemoryShort}
 use Rattle.definitions.specs.declared.operand.Operand.{Operand}
 use Rattle.definitions.specs.declared.operand.Definition.{Definition}
+use Rattle.definitions.specs.Operands.{reach}
 use Rattle.definitions.specs.Combine.{choose}
-use Rattle.script.specs.Script.{known, reach}
+use Rattle.script.specs.Script.{known}
 use Rattle.algebra.specs.Algebra.{Algebra}
 use Rattle.algebra.specs.Worth.{operand_worth}
 use Rattle.evaluate.specs.Evaluation.{settings_of, evaluation_refusal, WorkedOut, Evaluated}

@@ -6,8 +6,9 @@ use Rattle.std.proofs.lemmas.Bool.{and_parts, ltb-true, leb-true}
 use Rattle.definitions.specs.declared.operand.Operand.{Operand}
 use Rattle.definitions.specs.declared.operand.Operand.TheVariants.{Never, Always, Works, Out, Defined}
 use Rattle.definitions.specs.declared.operand.Definition.{Definition}
+use Rattle.definitions.specs.Operands.{reach}
 use Rattle.definitions.specs.Sound.{blank}
-use Rattle.script.specs.Script.{known, reach}
+use Rattle.script.specs.Script.{known}
 use Rattle.algebra.specs.Algebra.{Algebra}
 use Rattle.algebra.specs.Worth.{Settings, operand_worth, definition_worth, values_after, values, worth}
 

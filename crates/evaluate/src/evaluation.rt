@@ -2,7 +2,7 @@ ghost use Rattle.std.specs.Prelude.{◌≡◌, ◌≤◌, length};
 ghost use Rattle.script.specs.Script.{definitions_of};
 ghost use Rattle.evaluate.specs.Evaluation.{WorkedOut, Evaluation};
 
-use crate::lookup::{SETTINGS, definition_element, operand_element, reach};
+use crate::lookup::{SETTINGS, definition_element, operand_element};
 use algebra::boolean::BooleanAlgebra;
 use definitions::operand::{Definition, Operand};
 use rack::refusal::Refusal;
@@ -43,7 +43,7 @@ pub fn evaluate<A: BooleanAlgebra>(
     if settings.len() != SETTINGS {
         return Err(Refusal::WrongSettings);
     }
-    let needed = reach(operand);
+    let needed = usize::from(operand.reach());
     if elements.len() < needed {
         return Err(Refusal::MemoryShort);
     }

@@ -1,6 +1,5 @@
 ghost use Rattle.std.specs.Prelude.{◌≡◌, ◌-◌, map, length, slice_index_or};
 ghost use Rattle.algebra.specs.Worth.{operand_worth, definition_worth};
-ghost use Rattle.script.specs.Script.{reach as reach_of};
 ghost use Rattle.evaluate.specs.Evaluation.{settings_of};
 
 use algebra::boolean::BooleanAlgebra;
@@ -8,16 +7,6 @@ use definitions::operand::{Definition, DefinitionNumber, Operand, Operator};
 
 /// The number of settings: one a part.
 pub(crate) const SETTINGS: usize = 256;
-
-/// How many definitions an operand needs: its number where it is a definition, and otherwise 0.
-pub(crate) fn reach(operand: Operand) -> usize
-    ensures { result ≡ reach_of operand }
-{
-    match operand {
-        Operand::Defined(number) => number.0 as usize,
-        _ => 0,
-    }
-}
 
 /// The element of a definition by its number, among those that are worked out, and bottom past their end.
 fn look_up<A: BooleanAlgebra>(number: DefinitionNumber, done: &[A]) -> A

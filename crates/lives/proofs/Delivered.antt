@@ -9,10 +9,10 @@ use Rattle.rack.specs.declared.refusal.Refusal.TheVariants.{NoSuchDefinition, Ou
 use Rattle.definitions.specs.declared.operand.Operand.{Operand}
 use Rattle.definitions.specs.declared.operand.Operand.TheVariants.{Never, Always, Works, Out, Defined}
 use Rattle.definitions.specs.declared.operand.Definition.{Definition}
-use Rattle.definitions.specs.Operands.{number}
+use Rattle.definitions.specs.Operands.{number, reach}
 use Rattle.definitions.specs.Combine.{choose}
 use Rattle.definitions.specs.Sound.{blank, Legal}
-use Rattle.script.specs.Script.{known, reach}
+use Rattle.script.specs.Script.{known}
 use Rattle.script.proofs.Soundness.{known_legal}
 use Rattle.evaluate.specs.Evaluation.{evaluation_refusal}
 use Rattle.delivery.specs.Lines.{start_line, definition_line, end_line}

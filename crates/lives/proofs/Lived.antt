@@ -9,12 +9,13 @@ use Rattle.rack.specs.declared.refusal.Refusal.TheVariants.{NoSuchDefinition, Me
 use Rattle.table.specs.Kept.{kept}
 use Rattle.definitions.specs.declared.operand.Operand.{Operand}
 use Rattle.definitions.specs.declared.operand.Definition.{Definition}
+use Rattle.definitions.specs.Operands.{reach}
 use Rattle.definitions.specs.Combine.{State, choose, counted, combining}
 use Rattle.definitions.specs.Sound.{Legal, Sound}
 use Rattle.working.specs.Gather.{needed}
 use Rattle.working.specs.Translation.{Outcome.written, Outcome.refused, limited}
 use Rattle.methods.specs.Methods.{rule_of}
-use Rattle.script.specs.Script.{known, reach}
+use Rattle.script.specs.Script.{known}
 use Rattle.script.specs.Combination.{Reply.done, Reply.told, or_limit}
 use Rattle.script.proofs.Soundness.{empty_sound, known_legal}
 use Rattle.algebra.specs.Algebra.{Algebra, Lattice, Complemented, EveryAlgebra}

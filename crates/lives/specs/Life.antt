@@ -7,11 +7,11 @@ use Rattle.rack.specs.Way.{Way}
 use Rattle.definitions.specs.declared.operand.Operator.{Operator}
 use Rattle.definitions.specs.declared.operand.Operand.{Operand}
 use Rattle.definitions.specs.declared.operand.Definition.{Definition}
+use Rattle.definitions.specs.Operands.{reach}
 use Rattle.definitions.specs.Combine.{State, counted}
 use Rattle.working.specs.Translation.{Outcome.written, Outcome.refused, outcome}
 use Rattle.methods.specs.declared.translate.Method.{Method}
 use Rattle.methods.specs.Methods.{rule_of}
-use Rattle.script.specs.Script.{reach}
 use Rattle.script.specs.Combination.{Reply.done, Reply.told, combination}
 use Rattle.algebra.specs.Algebra.{Algebra}
 use Rattle.algebra.specs.Worth.{worth}

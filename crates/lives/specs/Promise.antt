@@ -6,9 +6,9 @@ use Rattle.rack.specs.Way.{Way}
 use Rattle.table.specs.Kept.{kept, literals}
 use Rattle.definitions.specs.declared.operand.Operand.{Operand}
 use Rattle.definitions.specs.declared.operand.Definition.{Definition}
+use Rattle.definitions.specs.Operands.{reach}
 use Rattle.definitions.specs.Combine.{counted}
 use Rattle.definitions.specs.Sound.{Sound}
-use Rattle.script.specs.Script.{reach}
 use Rattle.algebra.specs.Algebra.{Algebra}
 use Rattle.algebra.specs.Worth.{Settings, applied, worth, ways_worth}
 use Rattle.evaluate.specs.Evaluation.{settings_of}

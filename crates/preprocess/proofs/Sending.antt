@@ -4,8 +4,9 @@ use Rattle.std.proofs.lemmas.Bool.Decides.{nat_tests}
 use Rattle.rack.specs.declared.refusal.Refusal.{Refusal}
 use Rattle.definitions.specs.declared.operand.Operand.{Operand}
 use Rattle.definitions.specs.declared.operand.Definition.{Definition}
+use Rattle.definitions.specs.Operands.{reach}
 use Rattle.script.specs.declared.script.Script.{Script}
-use Rattle.script.specs.Script.{definitions_of, reach}
+use Rattle.script.specs.Script.{definitions_of}
 use Rattle.delivery.specs.Lines.{start_line, end_line, over}
 use Rattle.delivery.specs.declared.delivery.Delivery.{Delivery}
 use Rattle.delivery.specs.Calls.{next_line, next_refusal, close_refusal, sources, Opened, Went}

@@ -8,11 +8,11 @@ use Rattle.rack.specs.Refusals.{number_of, position_of}
 use Rattle.table.specs.Reading.{Reading, Reading.closed, Reading.stopped}
 use Rattle.definitions.specs.declared.operand.Operand.{Operand}
 use Rattle.definitions.specs.declared.operand.Definition.{Definition}
+use Rattle.definitions.specs.Operands.{reach}
 use Rattle.definitions.specs.Combine.{counted}
 use Rattle.working.specs.Translation.{Outcome, Outcome.written, Outcome.refused, outcome}
 use Rattle.methods.specs.declared.translate.Method.{Method}
 use Rattle.methods.specs.Methods.{rule_of}
-use Rattle.script.specs.Script.{reach}
 use Rattle.delivery.specs.Lines.{start_line, end_line}
 use Rattle.delivery.specs.Calls.{next_line}
 

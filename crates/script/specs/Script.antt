@@ -24,13 +24,5 @@ known n (Works p) = true
 known n (Out p) = true
 known n (Defined k) = known_number n k.0
 
--- how many definitions an operand needs: its number where it is a definition, and otherwise 0
-abbrev pub reach : Operand → ℕ
-reach Never = 0
-reach Always = 0
-reach (Works p) = 0
-reach (Out p) = 0
-reach (Defined k) = k.0
-
 abbrev pub fetched : List Definition → ℕ → Result Definition Refusal
 fetched ds k = choose (known_number (length ds) k) (Ok (slice_index_or ds (k - 1) blank)) (Err NoSuchDefinition)

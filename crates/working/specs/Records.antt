@@ -1,13 +1,9 @@
 -- What a working record holds: a way, by the literals that are left of it.
 use Rattle.std.specs.Prelude.{ℕ, ◌+◌, Bool, true, false, not, ◌||◌, List, [], ◌∷◌, map, length, Some, None, filter, Option}
 use Rattle.rack.specs.declared.part.Literal.{Literal}
-use Rattle.rack.specs.declared.part.Part.{Part}
-use Rattle.rack.specs.declared.part.Sign.{Sign}
-use Rattle.rack.specs.declared.part.Sign.TheVariants as sign
 use Rattle.rack.specs.Way.{Way}
 use Rattle.table.specs.Kept.{same_literal, literals}
-use Rattle.definitions.specs.declared.operand.Operand.{Operand}
-use Rattle.definitions.specs.declared.operand.Operand.TheVariants.{Works, Out}
+pub use Rattle.definitions.specs.Operands.{signed, operand_of}
 use Rattle.working.specs.declared.record.WorkingRecord.{WorkingRecord}
 use Rattle.working.specs.declared.record.WorkingRecord.TheVariants as record_of
 
@@ -44,11 +40,3 @@ has_empty (w ∷ ws) = is_empty w || has_empty ws
 -- ways and literals
 abbrev pub size : List Way → ℕ
 size ws = length ws + literals ws
-
-abbrev pub signed : Sign → Part → Operand
-signed sign.Works p = Works p
-signed sign.Out p = Out p
-
--- the operand of a literal
-abbrev pub operand_of : Literal → Operand
-operand_of l = signed l.sign l.part

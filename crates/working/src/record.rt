@@ -4,7 +4,7 @@ ghost use Rattle.working.specs.Records.{left_in, way_in, lacking, first_of, oper
 
 use definitions::operand::Operand;
 use rack::find::Same;
-use rack::part::{Literal, Sign};
+use rack::part::Literal;
 
 /// A node of the trie. The root is 0, and the branch in the record at place i leads to node i + 1.
 #[derive(Clone, Copy, PartialEq)]
@@ -79,10 +79,7 @@ impl Same for WorkingRecord {
 pub fn operand_of(literal: Literal) -> Operand
     ensures { result ≡ operand_of literal }
 {
-    match literal.sign {
-        Sign::Works => Operand::Works(literal.part),
-        Sign::Out => Operand::Out(literal.part),
-    }
+    Operand::from(literal)
 }
 
 /// The first literal that is left in the places of a way.

@@ -1,6 +1,6 @@
 -- Each definition is due, and so is the end behind them.
 use Rattle.std.proofs.Common.{◌+◌, ◌<◌, ◌≤◌, vec_items, sym, refl, ap, ◌∙◌, arith}
-use Rattle.script.specs.Script.{reach}
+use Rattle.definitions.specs.Operands.{reach}
 use Rattle.delivery.specs.Lines.{end_line}
 use Rattle.delivery.specs.Calls.{sources, next_line}
 use Rattle.preprocess.proofs.Sending.{begun, front, as_long, went_on, goes, closes, added, behind, at_end}
