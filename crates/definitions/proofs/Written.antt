@@ -11,8 +11,12 @@ use Rattle.definitions.specs.Writing.{written_in, seen, Grown, Wrote}
 take_less : {X : Type 0} (xs ys : List X) (m n : ℕ) → m ≤ n → take n xs ≡ take n ys → take m xs ≡ take m ys
 take_less xs ys m n le e = sym (take-take m n xs le) ∙ ap (take m) e ∙ take-take m n ys le
 
+-- the same slots, count and limit
+pub stays : {was after : Draft} → after.slots.now ≡ was.slots.now → after.count ≡ was.count → after.limit ≡ was.limit → after.slots.ghost_name ≡ was.slots.ghost_name → Grown was after
+stays {was} s c l n = record { below = ap (take was.count) s; grown = omega (arith, c); within = omega (arith, c); limit = l; lender = n }
+
 pub same_draft : {d : Draft} → Grown d d
-same_draft = record { below = refl; grown = omega arith; within = omega arith; limit = refl; room = refl; lender = refl }
+same_draft = stays refl refl refl refl
 
 pub both : {was mid after : Draft} → Grown was mid → Grown mid after → Grown was after
 both {was} {mid} {after} a b =
@@ -22,7 +26,6 @@ both {was} {mid} {after} a b =
       grown = omega (arith, a.grown, b.grown);
       within = omega (arith, a.within, b.within);
       limit = b.limit ∙ a.limit;
-      room = b.room ∙ a.room;
       lender = b.lender ∙ a.lender;
     }
 

@@ -1,5 +1,5 @@
 -- What a call that writes leaves in the draft that it was lent.
-use Rattle.std.specs.Prelude.{◌≡◌, ◌≤◌, max, List, length, take, Some, None, Ok, Err, Option, Result}
+use Rattle.std.specs.Prelude.{◌≡◌, ◌≤◌, max, List, take, Some, None, Ok, Err, Option, Result}
 use Rattle.definitions.specs.declared.operand.Operand.{Operand}
 use Rattle.definitions.specs.declared.operand.Definition.{Definition}
 use Rattle.definitions.specs.declared.draft.Draft.{Draft}
@@ -21,7 +21,6 @@ pub record Grown (was after : Draft) : Type 0 where
   pub grown : was.count ≤ after.count
   pub within : after.count ≤ max was.count (counted was.limit)
   pub limit : after.limit ≡ was.limit
-  pub room : length after.slots.now ≡ length was.slots.now
   pub lender : after.slots.ghost_name ≡ was.slots.ghost_name
 
 -- the call found the draft as it was, and left it as it is after: its answer and the definitions are as w has it

@@ -1,3 +1,5 @@
+ghost use Rattle.std.specs.Prelude.{◌≡◌, length};
+
 use crate::operand::Definition;
 use rack::refusal::Refusal;
 
@@ -8,6 +10,7 @@ pub struct Draft<'a> {
     pub slots: &'a mut [Definition; 4096],
     pub count: usize,
     pub limit: usize,
+    ghost room: { length slots.now ≡ 4096 },
 }
 
 /// A new definition is due and the limit is reached.

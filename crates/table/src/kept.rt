@@ -1,7 +1,7 @@
-ghost use Rattle.std.specs.Prelude.{◌≡◌};
+ghost use Rattle.std.specs.Prelude.{◌≡◌, Decides};
 ghost use Rattle.table.specs.Kept.{holds, opposed, contradictory, same_way, among, keeps, ways_of};
 
-use rack::find::{Same, find_first};
+use rack::find::find_first;
 use rack::part::{Literal, Sign};
 use rack::way::WayRecord;
 
@@ -28,6 +28,13 @@ fn is_held(way: &[Literal], literal: Literal) -> bool
     find_first(way, &literal).is_some()
 }
 
+/// Whether two literals are the same.
+fn same(a: &Literal, b: &Literal) -> bool
+    ensures { Decides result (a.now ≡ b.now) }
+{
+    *a == *b
+}
+
 /// Whether two ways have the same literals in the same order.
 fn is_same(way: &[Literal], other: &[Literal]) -> bool
     ensures { result ≡ same_way way.now other.now }
@@ -36,7 +43,7 @@ fn is_same(way: &[Literal], other: &[Literal]) -> bool
         return false;
     }
     for (i, literal) in way.iter().enumerate() {
-        if !literal.same(&other[i]) {
+        if !same(literal, &other[i]) {
             return false;
         }
     }

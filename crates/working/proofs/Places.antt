@@ -1,13 +1,13 @@
 -- The places of a way, one at a time: its first literal, whether it holds one, and what is left lacking one.
-use Rattle.std.proofs.Common.{◌≡◌, ℕ, ◌+◌, ◌<◌, ◌≤◌, Bool, true, false, cond, not, ◌||◌, List, [], ◌∷◌, ◌++◌, map, length, get_or, take, drop, set, Some, None, Decides, Option, sym, refl, ap, ◌∙◌, arith}
-use Rattle.std.proofs.lemmas.List.{at_drop_more, append-nil, length-append, length-map, length-drop, length-take-le, set-get_or, take_all, drop_all, get_or_default}
+use Rattle.std.proofs.Common.{◌≡◌, ℕ, ◌+◌, ◌<◌, ◌≤◌, Bool, true, false, cond, not, ◌||◌, List, [], ◌∷◌, ◌++◌, map, length, get_or, take, drop, set, Some, None, Option, sym, refl, ap, ◌∙◌, arith}
+use Rattle.std.proofs.lemmas.List.{at_drop_more, append-nil, length-append, length-map, length-drop, length-take-le, take_all, drop_all, get_or_default}
 use Rattle.std.proofs.lemmas.List.Edits.{map_over_more}
 use Rattle.std.proofs.lemmas.Bool.{false≢true}
-use Rattle.std.proofs.lemmas.Bool.Decides.{same_from_decides, Decides-like}
+use Rattle.std.specs.List.{list_any}
+use Rattle.std.specs.Option.{option_eq}
 use Rattle.rack.specs.declared.part.Literal.{Literal}
 use Rattle.rack.specs.Way.{Way}
 use Rattle.table.specs.Kept.{same_literal, holds}
-use Rattle.table.proofs.KeptWays.{decides_literal}
 use Rattle.working.specs.Records.{left_in, lacking, first_of}
 
 -- whether a place holds m
@@ -15,9 +15,10 @@ abbrev pub is_at : Literal → Option Literal → Bool
 is_at m None = false
 is_at m (Some l) = same_literal l m
 
-pub is_at_decided : (m : Literal) (o : Option Literal) (r : Bool) → Decides r (o ≡ Some m) → r ≡ is_at m o
-is_at_decided m None r d = same_from_decides r false d ((λ e. absurd (false≢true e)), (λ e. absurd (let z : ◌≡◌ {A = ℕ} 0 1 = cc in omega arith)))
-is_at_decided m (Some l) r d = same_from_decides r (same_literal l m) d (Decides-like _ (λ e. ap (λ x. Some x) e) (λ e. cc) (decides_literal l m))
+-- e tells the literals that are the same as m
+pub is_at_where : (m : Literal) (e : Literal → Literal → Bool) → ((l : Literal) → e l m ≡ same_literal l m) → (o : Option Literal) → option_eq e o (Some m) ≡ is_at m o
+is_at_where m e f None = refl
+is_at_where m e f (Some l) = f l
 
 abbrev blanked : Bool → Option Literal → Option Literal
 blanked true o = None
@@ -44,6 +45,12 @@ pub holds_past : (m : Literal) (o : Option Literal) (s : List (Option Literal)) 
 holds_past m None s e = refl
 holds_past m (Some l) s e = ap (λ t. t || holds m (left_in s)) e
 
+-- p tells the places that hold m
+pub holds_where : (m : Literal) (p : Option Literal → Bool) → p None ≡ false → ((l : Literal) → p (Some l) ≡ same_literal l m) → (ps : List (Option Literal)) → list_any p ps ≡ holds m (left_in ps)
+holds_where m p e f [] = refl
+holds_where m p e f (None ∷ s) = ap (λ t. t || list_any p s) e ∙ holds_where m p e f s
+holds_where m p e f (Some l ∷ s) = λ i. f l i || holds_where m p e f s i
+
 module _ (ps : List (Option Literal)) (i : ℕ) (d : Option Literal) (lt : i < length ps) where
   pub first_at : (l : Literal) → get_or ps i d ≡ Some l → first_of (left_in (drop i ps)) ≡ Some l
   first_at l e = at_drop_more (λ s. first_of (left_in s)) ps i d lt ∙ ap (λ o. first_of (left_in (o ∷ drop (i + 1) ps))) e
@@ -68,8 +75,8 @@ clear_over m xs ys i d lt e =
 pub clears : (m : Literal) (xs ys zs : List (Option Literal)) (i : ℕ) (d : Option Literal) → i < length xs → ys ≡ map (cleared m) (take i xs) ++ drop i xs → is_at m (get_or ys i d) ≡ true → zs ≡ set ys i None → zs ≡ map (cleared m) (take (i + 1) xs) ++ drop (i + 1) xs
 clears m xs ys zs i d lt e t p = p ∙ ap (λ b. set ys i (blanked b (get_or ys i d))) (sym t) ∙ clear_over m xs ys i d lt e
 
-pub spares_place : (m : Literal) (xs ys zs : List (Option Literal)) (i : ℕ) (d : Option Literal) → i < length xs → ys ≡ map (cleared m) (take i xs) ++ drop i xs → is_at m (get_or ys i d) ≡ false → zs ≡ ys → zs ≡ map (cleared m) (take (i + 1) xs) ++ drop (i + 1) xs
-spares_place m xs ys zs i d lt e t p = p ∙ sym (set-get_or ys i d) ∙ ap (λ b. set ys i (blanked b (get_or ys i d))) (sym t) ∙ clear_over m xs ys i d lt e
+pub spares_place : (m : Literal) (xs ys zs : List (Option Literal)) (i : ℕ) (d : Option Literal) → i < length xs → ys ≡ map (cleared m) (take i xs) ++ drop i xs → is_at m (get_or ys i d) ≡ false → zs ≡ set ys i (get_or ys i d) → zs ≡ map (cleared m) (take (i + 1) xs) ++ drop (i + 1) xs
+spares_place m xs ys zs i d lt e t p = p ∙ ap (λ b. set ys i (blanked b (get_or ys i d))) (sym t) ∙ clear_over m xs ys i d lt e
 
 pub cleared_all : (m : Literal) (xs ys : List (Option Literal)) (i : ℕ) → length xs ≤ i → ys ≡ map (cleared m) (take i xs) ++ drop i xs → left_in ys ≡ lacking m (left_in xs)
 cleared_all m xs ys i h e = ap left_in (e ∙ (λ j. map (cleared m) (take_all i xs h j) ++ drop_all i xs h j) ∙ append-nil (map (cleared m) xs)) ∙ left_cleared m xs

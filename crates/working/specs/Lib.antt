@@ -1,3 +1,4 @@
 pub mod Records
 pub mod Gather
 pub mod Translation
+pub mod Exact

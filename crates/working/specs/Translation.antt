@@ -1,13 +1,15 @@
 -- What a translation of a table answers, by whichever method: the operand, the number of definitions added and the definitions then, or
 -- a refusal. It is told first where the working records are short, and then where the limit is reached.
-use Rattle.std.specs.Prelude.{◌≡◌, ℕ, ◌-◌, ◌<◌, ◌≤◌, max, List, length, take, Some, None, Ok, Err, Option, Result, nat_le}
+use Rattle.std.specs.Prelude.{◌≡◌, ℕ, ◌-◌, ◌<◌, List, length, Some, None, Ok, Err, Option, Result, nat_le}
 use Rattle.rack.specs.declared.refusal.Refusal.{Refusal}
 use Rattle.rack.specs.declared.refusal.Refusal.TheVariants.{LimitReached, MemoryShort}
 use Rattle.rack.specs.Way.{Way}
 use Rattle.table.specs.Kept.{kept}
 use Rattle.definitions.specs.declared.operand.Operand.{Operand}
 use Rattle.definitions.specs.declared.operand.Definition.{Definition}
-use Rattle.definitions.specs.Combine.{State, Writing, choose, counted}
+use Rattle.definitions.specs.declared.draft.Draft.{Draft}
+use Rattle.definitions.specs.Combine.{State, Writing, choose}
+use Rattle.definitions.specs.Writing.{written_in, Grown}
 use Rattle.working.specs.declared.record.WorkingRecord.{WorkingRecord}
 use Rattle.working.specs.Gather.{needed}
 
@@ -32,12 +34,9 @@ abbrev pub shown : Result (Operand × ℕ) Refusal → List Definition → Outco
 shown (Ok p) ds = written p.0 p.1 ds
 shown (Err e) ds = refused e
 
--- a method found n definitions in `was` and left m in `after`; the working records were `lent` and are `left`.
--- A method that is broken off at the limit may leave definitions behind the first n; translate takes them back
-pub record Translated (rule : Rule) (limit : ℕ) (ws : List Way) (lent left : List WorkingRecord) (was : List Definition) (n : ℕ) (after : List Definition) (m : ℕ) (r : Result (Operand × ℕ) Refusal) : Type 0 where
-  pub answer : shown r (take m after) ≡ outcome rule limit ws (length lent) (take n was)
-  pub below : take n after ≡ take n was
-  pub grown : n ≤ m
-  pub within : m ≤ max n (counted limit)
-  pub room : length after ≡ length was
-  pub untouched : length lent < needed (kept ws) → (left ≡ lent) × (m ≡ n)
+-- a method found the draft as it was, and left it as it is after; the working records were `lent` and are `left`.
+-- A method that is broken off at the limit may leave definitions behind those that were there; translate takes them back
+pub record Translated (rule : Rule) (ws : List Way) (lent left : List WorkingRecord) (was after : Draft) (r : Result (Operand × ℕ) Refusal) : Type 0 where
+  pub answer : shown r (written_in after) ≡ outcome rule was.limit ws (length lent) (written_in was)
+  pub grown : Grown was after
+  pub untouched : length lent < needed (kept ws) → (left ≡ lent) × (after.count ≡ was.count)

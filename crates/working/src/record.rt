@@ -1,9 +1,9 @@
-ghost use Rattle.std.specs.Prelude.{◌≡◌, Decides};
+ghost use Rattle.std.specs.Prelude.{◌≡◌};
+ghost use Rattle.std.proofs.Common.{rules};
 ghost use Rattle.table.specs.Kept.{holds as held};
-ghost use Rattle.working.specs.Records.{left_in, way_in, lacking, first_of, operand_of};
+ghost use Rattle.working.specs.Records.{left_in, way_in, lacking, first_of};
 
-use definitions::operand::Operand;
-use rack::find::Same;
+use rack::find::Exact;
 use rack::part::Literal;
 
 /// A node of the trie. The root is 0, and the branch in the record at place i leads to node i + 1.
@@ -17,7 +17,7 @@ impl Node {
 
 /// A record that a caller lends to a translation. It holds a way with the literals that are left of it, a branch of the trie, or
 /// the mark of a node where a way ends.
-#[derive(Clone, Copy)]
+#[derive(Clone, Copy, PartialEq)]
 pub enum WorkingRecord {
     Way { left: [Option<Literal>; 24] },
     Branch { parent: Node, literal: Literal },
@@ -29,57 +29,28 @@ impl WorkingRecord {
     pub const BLANK: WorkingRecord = WorkingRecord::Way { left: [None; 24] };
 }
 
-/// Whether two places hold the same literal, or none.
-fn same_place(a: Option<Literal>, b: Option<Literal>) -> bool
-    ensures { Decides result (a ≡ b) }
-{
-    match (a, b) {
-        (None, None) => true,
-        (Some(a), Some(b)) => a == b,
-        _ => false,
-    }
+impl Exact for Node {
+    ghost exact = { Prim.search rules };
 }
 
-/// Whether two ways have the same in every place.
-fn same_places(a: &[Option<Literal>], b: &[Option<Literal>]) -> bool
-    ensures { Decides result (a.now ≡ b.now) }
-{
-    if a.len() != b.len() {
-        return false;
-    }
-    for i in 0..a.len() {
-        if !same_place(a[i], b[i]) {
-            return false;
-        }
-    }
-    true
-}
+impl Exact for WorkingRecord {
+    ghost use Rattle.std.proofs.Common.{refl};
+    ghost use Rattle.working.specs.Exact.{ByParts, exact_by_parts};
 
-impl Same for WorkingRecord {
-    fn same(&self, other: &WorkingRecord) -> bool {
-        match (self, other) {
-            (WorkingRecord::Way { left: a }, WorkingRecord::Way { left: b }) => same_places(a, b),
-            (
-                WorkingRecord::Branch {
-                    parent: p,
-                    literal: a,
-                },
-                WorkingRecord::Branch {
-                    parent: q,
-                    literal: b,
-                },
-            ) => *p == *q && *a == *b,
-            (WorkingRecord::End { node: a }, WorkingRecord::End { node: b }) => *a == *b,
-            _ => false,
-        }
-    }
-}
-
-/// The operand of a literal.
-pub fn operand_of(literal: Literal) -> Operand
-    ensures { result ≡ operand_of literal }
-{
-    Operand::from(literal)
+    ghost exact = { exact_by_parts {q = ⟦<WorkingRecord as PartialEq>⟧.eq} {n = ⟦<Node as PartialEq>⟧.eq} {l = ⟦<Literal as PartialEq>⟧.eq}
+        (record {
+          ways = λ x y. refl;
+          branches = λ p o x y. refl;
+          ends = λ p o. refl;
+          way_branch = λ x o y. refl;
+          way_end = λ x o. refl;
+          branch_way = λ p x y. refl;
+          branch_end = λ p x o. refl;
+          end_way = λ p y. refl;
+          end_branch = λ p o y. refl;
+        })
+        (Prim.search rules)
+        (Prim.search rules) };
 }
 
 /// The first literal that is left in the places of a way.
@@ -98,21 +69,16 @@ fn first_in(left: &[Option<Literal>]) -> Option<Literal>
 fn held_in(left: &[Option<Literal>], wanted: Literal) -> bool
     ensures { result ≡ held wanted (left_in left.now) }
 {
-    for place in left {
-        if same_place(*place, Some(wanted)) {
-            return true;
-        }
-    }
-    false
+    left.contains(&Some(wanted))
 }
 
 /// Takes a literal away from the places of a way.
 fn clear(left: &mut [Option<Literal>], gone: Literal)
     ensures { left_in left.new ≡ lacking gone (left_in left.old) }
 {
-    for i in 0..left.len() {
-        if same_place(left[i], Some(gone)) {
-            left[i] = None;
+    for place in left.iter_mut() {
+        if *place == Some(gone) {
+            *place = None;
         }
     }
 }

@@ -1,17 +1,18 @@
 -- The places so far are cleared, and the others are as they were.
-use Rattle.std.proofs.Common.{◌<◌, true, false, length, None, sym, arith}
-use Rattle.working.proofs.Places.{is_at_decided, clears, spares_place, cleared_all}
+use Rattle.std.proofs.Common.{◌≡◌, get_or, None, sym, ◌∙◌, rules}
+use Rattle.working.proofs.Places.{is_at, is_at_where, clears, spares_place, cleared_all}
 use Rattle.working.proofs.record.clear.Goals as goal
-use Rattle.working.proofs.record.clear.Goals.{then-same_place, else-same_place}
+use Rattle.working.proofs.record.clear.Goals.{then-eq, else-eq}
 
-pub loop-i-preserved : goal.loop-i-preserved
-loop-i-preserved c =
-    let lt : c.loop-i.i < length c.args.left.now = omega (arith, c.loop-i-test.true, c.loop-i.auto.left) in
-    elim c.if-same_place.branch [
-      | then-same_place w ↦ clears c.args.gone c.args.left.now c.loop-i.left c.if-same_place.left c.loop-i.i None lt c.loop-i.invariant (sym (is_at_decided c.args.gone _ true w.if-same_place.ensures)) w.left-is
-      | else-same_place w ↦ spares_place c.args.gone c.args.left.now c.loop-i.left c.if-same_place.left c.loop-i.i None lt c.loop-i.invariant (sym (is_at_decided c.args.gone _ false w.if-same_place.ensures)) w.left-is
+pub loop-place-preserved : goal.loop-place-preserved
+loop-place-preserved c =
+    let m = c.args.gone in
+    let i = c.loop-place.place-index in
+    let at : c.eq.result ≡ is_at m (get_or c.loop-place.left i None) = c.eq.ensures ∙ is_at_where m _ (λ l. search rules) _ in
+    elim c.if-eq.branch [
+      | then-eq w ↦ clears m c.args.left.now c.loop-place.left c.if-eq.left i None c.loop-place-test.true c.loop-place.invariant (sym at ∙ w.if-eq.true) w.left-is
+      | else-eq w ↦ spares_place m c.args.left.now c.loop-place.left c.if-eq.left i None c.loop-place-test.true c.loop-place.invariant (sym at ∙ w.if-eq.false) w.left-is
     ]
 
 pub returns : goal.returns
-returns c =
-    cleared_all c.args.gone c.args.left.now c.loop-i.left c.loop-i.i (omega arith) c.loop-i.invariant
+returns c = cleared_all c.args.gone c.args.left.now c.loop-place.left c.loop-place.place-index c.loop-place-test.false c.loop-place.invariant
