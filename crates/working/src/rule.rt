@@ -11,8 +11,8 @@ use definitions::operand::Operand;
 use rack::refusal::Refusal;
 use rack::way::WayRecord;
 
-/// A method by which ways become definitions.
-pub trait Method {
+/// One of the methods by which ways become definitions.
+pub trait Writer {
     /// What it writes of a list of ways, within a limit.
     ghost rule: { Rule };
 
@@ -30,18 +30,18 @@ pub trait Method {
 /// Translates the ways of a table by a method: writes the kept ones behind the definitions of the draft, and answers the operand and the
 /// number of definitions added. Refuses where the working records are short (13), and then writes nothing, and where a new definition is
 /// due and the limit is reached (10).
-pub fn translate_by<M: Method>(
+pub fn translate_by<W: Writer>(
     ways: &[WayRecord],
     work: &mut [WorkingRecord],
     draft: &mut Draft<'_>,
 ) -> Result<(Operand, usize), Refusal>
-    ensures { Translated M.rule (ways_of ways.now) work.old work.new draft.old draft.new result }
+    ensures { Translated W.rule (ways_of ways.now) work.old work.new draft.old draft.new result }
 {
     let before = draft.count;
     let Some(n) = gather(ways, work) else {
         return Err(Refusal::MemoryShort);
     };
     let (list, room) = work.split_at_mut(n);
-    let operand = M::write(list, room, draft)?;
+    let operand = W::write(list, room, draft)?;
     Ok((operand, draft.count - before))
 }
