@@ -48,6 +48,10 @@ module _ {was mid : Draft} {F : Writing} where
   pub like : {r : Result Operand LimitReached} {G : Writing} → G ≡ F → Wrote was mid r F → Wrote was mid r G
   like {r} e a = subst (λ (w : Writing). Wrote was mid r w) (sym e) a
 
+-- what follows a writing is read at the limit that the writing began with
+pub at_first_limit : {was mid after : Draft} {r : Result Operand LimitReached} (F : ℕ → Writing) → Grown was mid → Wrote mid after r (F mid.limit) → Wrote mid after r (F was.limit)
+at_first_limit F g w = like (ap F (sym g.limit)) w
+
 -- A writing under way: of `whole`, which began at `was`, `rest` is left to do at `now`.
 pub record Underway (was now : Draft) (rest whole : Writing) : Type 0 where
   pub answer : rest (written_in now) ≡ whole (written_in was)

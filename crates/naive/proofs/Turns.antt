@@ -1,10 +1,15 @@
 -- One turn of each loop: one more literal of a way, one more way.
-use Rattle.std.proofs.Common.{◌≡◌, ℕ, ◌+◌, ◌<◌, ◌≤◌, List, ◌∷◌, length, get_or, drop, Some, None, Option, sym, ap, ◌∙◌}
+use Rattle.std.proofs.Common.{◌≡◌, ℕ, ◌+◌, ◌<◌, ◌≤◌, List, ◌∷◌, length, get_or, drop, Some, None, Option, Result, sym, ap, ◌∙◌}
 use Rattle.std.proofs.lemmas.List.{at_drop_more, at_drop_all}
 use Rattle.rack.specs.declared.part.Literal.{Literal}
+use Rattle.rack.specs.Way.{Way}
 use Rattle.definitions.specs.declared.operand.Operator.TheVariants.{Meet, Join}
 use Rattle.definitions.specs.declared.operand.Operand.{Operand}
 use Rattle.definitions.specs.declared.operand.Operand.TheVariants.{Always}
+use Rattle.definitions.specs.declared.draft.Draft.{Draft}
+use Rattle.definitions.specs.declared.draft.LimitReached.{LimitReached}
+use Rattle.definitions.specs.Writing.{Grown, Wrote}
+use Rattle.definitions.proofs.Written.{at_first_limit}
 use Rattle.definitions.specs.Combine.{Writing, give, and_then, combining}
 use Rattle.working.specs.declared.record.WorkingRecord.{WorkingRecord}
 use Rattle.working.specs.Records.{left_in, way_in, ways_in, operand_of}
@@ -35,3 +40,7 @@ module _ (limit : ℕ) (sofar : Operand) (rs : List WorkingRecord) (i : ℕ) whe
 
   pub past_ways : length rs ≤ i → joined_from sofar i ≡ give sofar
   past_ways h = at_drop_all (λ s. joining limit sofar (ways_in s)) rs i h
+
+-- a way is met at the limit that the whole began with
+pub met_at_first_limit : {was mid after : Draft} {r : Result Operand LimitReached} (w : Way) → Grown was mid → Wrote mid after r (meeting mid.limit Always w) → Wrote mid after r (meeting was.limit Always w)
+met_at_first_limit w = at_first_limit (λ k. meeting k Always w)

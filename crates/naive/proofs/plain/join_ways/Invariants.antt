@@ -7,4 +7,4 @@ use Rattle.naive.specs.Naive.{joining}
 use Rattle.naive.proofs.plain.join_ways.Given as goal
 
 abbrev pub invariant-loop-record : goal.invariant-loop-record
-invariant-loop-record l = Underway l.limit l.initial.slots l.initial.count l.slots l.count (joining l.limit l.sofar (ways_in (drop l.record-index l.list))) (joining l.limit Never (ways_in l.list))
+invariant-loop-record l = Underway l.initial.draft l.draft (joining l.initial.draft.limit l.sofar (ways_in (drop l.record-index l.list))) (joining l.initial.draft.limit Never (ways_in l.list))

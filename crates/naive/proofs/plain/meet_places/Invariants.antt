@@ -7,4 +7,4 @@ use Rattle.naive.specs.Naive.{meeting}
 use Rattle.naive.proofs.plain.meet_places.Given as goal
 
 abbrev pub invariant-loop-place : goal.invariant-loop-place
-invariant-loop-place l = Underway l.limit l.initial.slots l.initial.count l.slots l.count (meeting l.limit l.sofar (left_in (drop l.place-index l.left))) (meeting l.limit Always (left_in l.left))
+invariant-loop-place l = Underway l.initial.draft l.draft (meeting l.initial.draft.limit l.sofar (left_in (drop l.place-index l.left))) (meeting l.initial.draft.limit Always (left_in l.left))
