@@ -3,7 +3,7 @@ use Rattle.std.specs.Prelude.{◌≡◌, ℕ, true, List, is_err, Result}
 use Rattle.rack.specs.declared.refusal.Refusal.{Refusal}
 use Rattle.rack.specs.Way.{Way}
 use Rattle.definitions.specs.declared.operand.Operand.{Operand}
-use Rattle.definitions.specs.declared.operand.Definition.{Definition}
+use Rattle.definitions.specs.declared.draft.Draft.{Draft}
 use Rattle.working.specs.declared.record.WorkingRecord.{WorkingRecord}
 use Rattle.working.specs.Translation.{Rule, Translated}
 use Rattle.naive.specs.Naive.{naively}
@@ -18,6 +18,6 @@ rule_of method.Decomposition = decomposing
 rule_of method.NodeMerging = merging
 
 -- ws are the ways entered
-pub record Settled (m : Method) (limit : ℕ) (ws : List Way) (lent left : List WorkingRecord) (was : List Definition) (n : ℕ) (after : List Definition) (k : ℕ) (r : Result (Operand × ℕ) Refusal) : Type 0 where
-  pub translated : Translated (rule_of m) limit ws lent left was n after k r
-  pub restored : is_err r ≡ true → k ≡ n
+pub record Settled (m : Method) (ws : List Way) (lent left : List WorkingRecord) (was after : Draft) (r : Result (Operand × ℕ) Refusal) : Type 0 where
+  pub translated : Translated (rule_of m) ws lent left was after r
+  pub restored : is_err r ≡ true → after.count ≡ was.count

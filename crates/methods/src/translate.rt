@@ -1,16 +1,17 @@
-ghost use Rattle.std.specs.Prelude.{◌≡◌, if◌then◌else◌};
 ghost use Rattle.table.specs.Kept.{ways_of};
 ghost use Rattle.working.specs.Translation.{Translated};
 ghost use Rattle.methods.specs.Methods.{rule_of, Settled};
 
-use decomposition::split::decomposition;
-use definitions::operand::{Definition, Operand};
-use merging::trie::node_merging;
-use naive::plain::naive;
+use decomposition::split::Decomposition;
+use definitions::draft::Draft;
+use definitions::operand::Operand;
+use merging::trie::NodeMerging;
+use naive::plain::Naive;
 use rack::refusal::Refusal;
 use rack::way::WayRecord;
 use table::table::Table;
 use working::record::WorkingRecord;
+use working::rule::translate_by;
 
 /// How ways become definitions.
 #[derive(Clone, Copy, PartialEq)]
@@ -23,25 +24,22 @@ pub enum Method {
     NodeMerging,
 }
 
-/// Puts the count of definitions back at its end, unless the translation was kept.
-struct Rollback<'a> {
-    count: &'a mut usize,
-    saved: usize,
-    kept: bool,
+/// Puts the count of a draft back at its end, unless the translation was kept: then there is none to put back.
+struct Rollback<'d, 'a> {
+    draft: &'d mut Draft<'a>,
+    back: Option<usize>,
 }
 
-impl Drop for Rollback<'_> {
+impl Drop for Rollback<'_, '_> {
+    ghost use Rattle.methods.specs.Rollback.{rolled_back};
+
     fn drop(self)
-        ensures { self.exit.0.now ≡ (if self.entry.kept then self.entry.count.now else self.entry.saved) }
+        ensures { self.exit.0.now ≡ rolled_back self.entry.back self.entry.draft.now }
     {
-        if !self.kept {
-            *self.count = self.saved;
+        if let Some(count) = self.back {
+            self.draft.count = count;
         }
-        let Rollback {
-            count: _,
-            saved: _,
-            kept: _,
-        } = self;
+        let Rollback { draft: _, back: _ } = self;
     }
 }
 
@@ -50,39 +48,34 @@ fn by_method(
     ways: &[WayRecord],
     method: Method,
     work: &mut [WorkingRecord],
-    slots: &mut [Definition; 4096],
-    count: &mut usize,
-    limit: usize,
+    draft: &mut Draft<'_>,
 ) -> Result<(Operand, usize), Refusal>
-    ensures { Translated (rule_of method) limit (ways_of ways.now) work.old work.new slots.old count.old slots.new count.new result }
+    ensures { Translated (rule_of method) (ways_of ways.now) work.old work.new draft.old draft.new result }
 {
     match method {
-        Method::Naive => naive(ways, work, slots, count, limit),
-        Method::Decomposition => decomposition(ways, work, slots, count, limit),
-        Method::NodeMerging => node_merging(ways, work, slots, count, limit),
+        Method::Naive => translate_by::<Naive>(ways, work, draft),
+        Method::Decomposition => translate_by::<Decomposition>(ways, work, draft),
+        Method::NodeMerging => translate_by::<NodeMerging>(ways, work, draft),
     }
 }
 
-/// Writes the kept ways of a table behind the first `count` definitions by the chosen method, and answers the operand and the number
-/// of definitions added. Refuses where the working records are short (13), then where a new definition is due and the limit is reached
+/// Writes the kept ways of a table behind the definitions of the draft by the chosen method, and answers the operand and the number of
+/// definitions added. Refuses where the working records are short (13), then where a new definition is due and the limit is reached
 /// (10); the count is then as before.
 pub fn translate(
     table: &Table<'_>,
     method: Method,
     work: &mut [WorkingRecord],
-    slots: &mut [Definition; 4096],
-    count: &mut usize,
-    limit: usize,
+    draft: &mut Draft<'_>,
 ) -> Result<(Operand, usize), Refusal>
-    ensures { Settled method limit (ways_of table.now.ways.now) work.old work.new slots.old count.old slots.new count.new result }
+    ensures { Settled method (ways_of table.now.ways.now) work.old work.new draft.old draft.new result }
 {
-    let saved = *count;
+    let count = draft.count;
     let mut guard = Rollback {
-        count,
-        saved,
-        kept: false,
+        draft,
+        back: Some(count),
     };
-    let answer = by_method(table.ways(), method, work, slots, guard.count, limit)?;
-    guard.kept = true;
+    let answer = by_method(table.ways(), method, work, guard.draft)?;
+    guard.back = None;
     Ok(answer)
 }

@@ -11,7 +11,8 @@ use Rattle.definitions.specs.declared.operand.Operand.TheVariants.{Never, Always
 use Rattle.definitions.specs.declared.operand.Definition.{Definition}
 use Rattle.definitions.specs.Combine.{State, choose, combining}
 use Rattle.definitions.specs.Sound.{Legal, Sound}
-use Rattle.definitions.specs.Writing.{Wrote}
+use Rattle.definitions.specs.declared.draft.Draft.{Draft}
+use Rattle.definitions.specs.Writing.{written_in, Grown, Wrote}
 use Rattle.working.specs.declared.record.WorkingRecord.{WorkingRecord}
 use Rattle.working.specs.Gather.{needed}
 use Rattle.working.specs.Translation.{Outcome.written, Outcome.refused, limited}
@@ -38,13 +39,14 @@ known_legal n (Defined k) e =
     let both = and_parts (ltb 0 k.0) (leb k.0 n) e in
     (ltb-true 0 k.0 both.0, leb-true k.0 n both.1)
 
-pub combined_sound : (limit : ℕ) (o : Operator) (a b : Operand) (s : List Definition) (n : ℕ) (t : List Definition) (m : ℕ) (x : Operand) → ∥ Sound (take n s) ∥₁ → known (length (take n s)) a ≡ true → known (length (take n s)) b ≡ true → Wrote limit s n t m (Ok x) (combining limit o a b) → ∥ Sound (take m t) ∥₁
-combined_sound limit o a b s n t m x sound ka kb w =
-    ∥∥₁_map sound (λ h. (combine_sound limit o a b (take n s) (record { answer = x; all = take m t }) h (known_legal (length (take n s)) a ka) (known_legal (length (take n s)) b kb) (sym w.answer)).1)
+pub combined_sound : {was after : Draft} (o : Operator) (a b x : Operand) → ∥ Sound (written_in was) ∥₁ → known (length (written_in was)) a ≡ true → known (length (written_in was)) b ≡ true → Wrote was after (Ok x) (combining was.limit o a b) → ∥ Sound (written_in after) ∥₁
+combined_sound {was} {after} o a b x sound ka kb w =
+    let ds = written_in was in
+    ∥∥₁_map sound (λ h. (combine_sound was.limit o a b ds (record { answer = x; all = written_in after }) h (known_legal (length ds) a ka) (known_legal (length ds) b kb) (sym w.answer)).1)
 
 -- the definitions in front are as they were
-pub same_sound : (s t : List Definition) (n : ℕ) → ∥ Sound (take n s) ∥₁ → take n t ≡ take n s → ∥ Sound (take n t) ∥₁
-same_sound s t n h e = subst (λ ds. ∥ Sound ds ∥₁) (sym e) h
+pub same_sound : {was after : Draft} → ∥ Sound (written_in was) ∥₁ → Grown was after → ∥ Sound (take was.count after.slots.now) ∥₁
+same_sound h g = subst (λ ds. ∥ Sound ds ∥₁) (sym g.below) h
 
 -- an outcome that is written comes from what the method wrote
 pub wrote_by : (o : Option State) (ds : List Definition) (t : Bool) (e : Refusal) (x : Operand) (k : ℕ) (all : List Definition) → written x k all ≡ choose t (limited ds o) (refused e) → o ≡ Some (record { answer = x; all = all })
@@ -55,12 +57,10 @@ wrote_by (Some st) ds true e x k all h = λ i. Some (back i)
 wrote_by None ds true e x k all h = absurd (let z : ◌≡◌ {A = ℕ} 0 1 = cc in omega arith)
 wrote_by o ds false e x k all h = absurd (let z : ◌≡◌ {A = ℕ} 0 1 = cc in omega arith)
 
-pub settled_sound : (method : Method) (limit : ℕ) (ws : List Way) (lent left : List WorkingRecord) (s : List Definition) (n : ℕ) (t : List Definition) (m : ℕ) (r : Result (Operand × ℕ) Refusal) → ∥ Sound (take n s) ∥₁ → Settled method limit ws lent left s n t m r → ∥ Sound (take m t) ∥₁
-settled_sound method limit ws lent left s n t m (Ok p) h w =
+pub settled_sound : {was after : Draft} (method : Method) (ws : List Way) (lent left : List WorkingRecord) (p : Operand × ℕ) → ∥ Sound (written_in was) ∥₁ → Settled method ws lent left was after (Ok p) → ∥ Sound (written_in after) ∥₁
+settled_sound {was} {after} method ws lent left p h w =
+    let ds = written_in was in
     ∥∥₁_map h
     (λ sound.
-    (method_sound method limit (kept ws) (take n s) (record { answer = p.0; all = take m t }) sound
-    (wrote_by (rule_of method limit (kept ws) (take n s)) (take n s) (leb (needed (kept ws)) (length lent)) _ p.0 p.1 (take m t) w.translated.answer)).1)
-settled_sound method limit ws lent left s n t m (Err e) h w =
-    let back : m ≡ n = w.restored refl in
-    subst (λ k. ∥ Sound (take k t) ∥₁) (sym back) (same_sound s t n h w.translated.below)
+    (method_sound method was.limit (kept ws) ds (record { answer = p.0; all = written_in after }) sound
+    (wrote_by (rule_of method was.limit (kept ws) ds) ds (leb (needed (kept ws)) (length lent)) _ p.0 p.1 (written_in after) w.translated.answer)).1)

@@ -6,7 +6,7 @@ ghost use Rattle.script.specs.Combination.{Combined};
 ghost use Rattle.script.specs.Translate.{WroteTable};
 
 use crate::script::Script;
-use definitions::combine::combine;
+use definitions::draft::Draft;
 use definitions::operand::{CAPACITY, Definition, DefinitionNumber, Operand, Operator};
 use methods::translate::{Method, translate};
 use rack::refusal::Refusal;
@@ -30,7 +30,7 @@ impl Script {
     pub fn count(&self) -> usize
         ensures { result ≡ length (definitions_of self.now) }
     {
-        self.count
+        self.definitions().len()
     }
 
     /// The limit as it counts.
@@ -81,21 +81,14 @@ impl Script {
         if !self.knows(first) || !self.knows(second) {
             return Err(Refusal::NoSuchDefinition);
         }
-        let mut count = self.count;
-        match combine(
-            &mut self.slots,
-            &mut count,
-            self.limit,
-            operator,
-            first,
-            second,
-        ) {
-            Ok(operand) => {
-                self.count = count;
-                Ok(operand)
-            }
-            Err(_) => Err(Refusal::LimitReached),
-        }
+        let mut draft = Draft {
+            slots: &mut self.slots,
+            count: self.count,
+            limit: self.limit,
+        };
+        let operand = draft.combine(operator, first, second)?;
+        self.count = draft.count;
+        Ok(operand)
     }
 
     /// Writes the kept ways of a closed table by a method, and answers the operand and the number of definitions added. Refuses where the
@@ -108,9 +101,13 @@ impl Script {
     ) -> Result<(Operand, usize), Refusal>
         ensures { WroteTable self.old self.new method (ways_of table.now.ways.now) work.old work.new result }
     {
-        let mut count = self.count;
-        let answer = translate(table, method, work, &mut self.slots, &mut count, self.limit);
-        self.count = count;
-        answer
+        let mut draft = Draft {
+            slots: &mut self.slots,
+            count: self.count,
+            limit: self.limit,
+        };
+        let answer = translate(table, method, work, &mut draft)?;
+        self.count = draft.count;
+        Ok(answer)
     }
 }
