@@ -6,8 +6,8 @@ use Rattle.rack.specs.declared.part.Part.{Part}
 use Rattle.rack.specs.Way.{Way}
 use Rattle.table.specs.Kept.{literals}
 use Rattle.definitions.specs.declared.operand.Operand.{Operand}
-use Rattle.definitions.specs.declared.operand.Definition.{Definition}
-use Rattle.definitions.specs.declared.combine.LimitReached.{LimitReached}
+use Rattle.definitions.specs.declared.draft.Draft.{Draft}
+use Rattle.definitions.specs.declared.draft.LimitReached.{LimitReached}
 use Rattle.definitions.specs.Combine.{Writing, and_then}
 use Rattle.definitions.specs.Writing.{Wrote}
 use Rattle.definitions.proofs.Written.{chain, stop, like}
@@ -37,52 +37,56 @@ spare_serves h ws front spare e l s le =
 pub beside_serves : (h : Literal) (ws us : List Way) {big : ℕ} → us ≡ beside h ws → literals ws ≤ big → literals us ≤ big
 beside_serves h ws us e le = omega (arith, beside_literals h ws, ap literals e)
 
+-- what is written next is told by the limit of the draft that it finds, which is the one before
+pub next : {was mid after : Draft} {F : Writing} {x : Operand} {q : Result Operand LimitReached} (G : ℕ → Operand → Writing) → Wrote was mid (Ok x) F → Wrote mid after q (G mid.limit x) → Wrote was after q (and_then F (G was.limit))
+next {was} {x = x} G a b = chain (G was.limit) a (like (ap (λ l. G l x) (sym a.grown.limit)) b)
+
 -- v is the part that comes first in ws, and us are the ways that hold it working
-module _ (limit : ℕ) (v : Part) (ws : List Way) (e : At v ≡ start_of ws) {us : List Way} (p : us ≡ under (working_of v) ws) where
+module _ (v : Part) (ws : List Way) (e : At v ≡ start_of ws) {us : List Way} (p : us ≡ under (working_of v) ws) where
   abbrev others : List Way
   others = beside (working_of v) ws
 
-  abbrev last : Operand → Operand → Operand → Writing
-  last a b c = closing limit v a b c
+  abbrev last : Operand → Operand → ℕ → Operand → Writing
+  last a b limit c = closing limit v a b c
 
-  abbrev third : Operand → Operand → Writing
-  third a b = and_then (decomposing limit (beside (out_of v) others)) (last a b)
+  abbrev third : Operand → ℕ → Operand → Writing
+  third a limit b = and_then (decomposing limit (beside (out_of v) others)) (last a b limit)
 
-  abbrev second : Operand → Writing
-  second a = and_then (decomposing limit (under (out_of v) others)) (third a)
+  abbrev second : ℕ → Operand → Writing
+  second limit a = and_then (decomposing limit (under (out_of v) others)) (third a limit)
 
   pub first_smaller : {t : ℕ} → size ws ≡ t → size us < t
   first_smaller m = omega (arith, working_falls v ws (sym e), ap size p)
 
-  module _ {s t : List Definition} {n m : ℕ} where
-    pub stops_first : {x : LimitReached} (q : Result Operand LimitReached) → is_err q ≡ true → Wrote limit s n t m (Err x) (decomposing limit us) → Wrote limit s n t m q (decomposing limit ws)
-    stops_first q f w = like (decomposed_by_part limit v ws e) (stop q second f (like (ap (decomposing limit) (sym p)) w))
+  module _ {d0 d1 : Draft} where
+    pub stops_first : {x : LimitReached} (q : Result Operand LimitReached) → is_err q ≡ true → Wrote d0 d1 (Err x) (decomposing d0.limit us) → Wrote d0 d1 q (decomposing d0.limit ws)
+    stops_first q f w = like (decomposed_by_part d0.limit v ws e) (stop q (second d0.limit) f (like (ap (decomposing d0.limit) (sym p)) w))
 
     -- os are the others, and vs those of them that hold it out
-    module _ {a : Operand} (w : Wrote limit s n t m (Ok a) (decomposing limit us)) {os vs : List Way} (o : os ≡ others) (p2 : vs ≡ under (out_of v) os) where
-      first_done : {u : List Definition} {k : ℕ} {q : Result Operand LimitReached} → Wrote limit t m u k q (second a) → Wrote limit s n u k q (decomposing limit ws)
-      first_done h = like (decomposed_by_part limit v ws e) (chain second (like (ap (decomposing limit) (sym p)) w) h)
+    module _ {a : Operand} (w : Wrote d0 d1 (Ok a) (decomposing d0.limit us)) {os vs : List Way} (o : os ≡ others) (p2 : vs ≡ under (out_of v) os) where
+      first_done : {d : Draft} {q : Result Operand LimitReached} → Wrote d1 d q (second d1.limit a) → Wrote d0 d q (decomposing d0.limit ws)
+      first_done h = like (decomposed_by_part d0.limit v ws e) (next second (like (ap (decomposing d0.limit) (sym p)) w) h)
 
-      out_same : decomposing limit (under (out_of v) others) ≡ decomposing limit vs
-      out_same = ap (decomposing limit) (sym (p2 ∙ ap (under (out_of v)) o))
+      out_same : (limit : ℕ) → decomposing limit (under (out_of v) others) ≡ decomposing limit vs
+      out_same limit = ap (decomposing limit) (sym (p2 ∙ ap (under (out_of v)) o))
 
-      module _ {u : List Definition} {k : ℕ} where
-        pub stops_second : {x : LimitReached} (q : Result Operand LimitReached) → is_err q ≡ true → Wrote limit t m u k (Err x) (decomposing limit vs) → Wrote limit s n u k q (decomposing limit ws)
-        stops_second q f w2 = first_done (stop q (third a) f (like out_same w2))
+      module _ {d2 : Draft} where
+        pub stops_second : {x : LimitReached} (q : Result Operand LimitReached) → is_err q ≡ true → Wrote d1 d2 (Err x) (decomposing d1.limit vs) → Wrote d0 d2 q (decomposing d0.limit ws)
+        stops_second q f w2 = first_done (stop q (third a d1.limit) f (like (out_same d1.limit) w2))
 
         -- xs are the rest
-        module _ {b : Operand} (w2 : Wrote limit t m u k (Ok b) (decomposing limit vs)) {xs : List Way} (p3 : xs ≡ beside (out_of v) os) where
-          rest_same : decomposing limit (beside (out_of v) others) ≡ decomposing limit xs
-          rest_same = ap (decomposing limit) (sym (p3 ∙ ap (beside (out_of v)) o))
+        module _ {b : Operand} (w2 : Wrote d1 d2 (Ok b) (decomposing d1.limit vs)) {xs : List Way} (p3 : xs ≡ beside (out_of v) os) where
+          rest_same : (limit : ℕ) → decomposing limit (beside (out_of v) others) ≡ decomposing limit xs
+          rest_same limit = ap (decomposing limit) (sym (p3 ∙ ap (beside (out_of v)) o))
 
-          second_done : {u2 : List Definition} {k2 : ℕ} {q : Result Operand LimitReached} → Wrote limit u k u2 k2 q (third a b) → Wrote limit s n u2 k2 q (decomposing limit ws)
-          second_done h = first_done (chain (third a) (like out_same w2) h)
+          second_done : {d : Draft} {q : Result Operand LimitReached} → Wrote d2 d q (third a d2.limit b) → Wrote d0 d q (decomposing d0.limit ws)
+          second_done h = first_done (next (third a) (like (out_same d1.limit) w2) h)
 
-          pub stops_third : {u2 : List Definition} {k2 : ℕ} {x : LimitReached} (q : Result Operand LimitReached) → is_err q ≡ true → Wrote limit u k u2 k2 (Err x) (decomposing limit xs) → Wrote limit s n u2 k2 q (decomposing limit ws)
-          stops_third q f w3 = second_done (stop q (last a b) f (like rest_same w3))
+          pub stops_third : {d3 : Draft} {x : LimitReached} (q : Result Operand LimitReached) → is_err q ≡ true → Wrote d2 d3 (Err x) (decomposing d2.limit xs) → Wrote d0 d3 q (decomposing d0.limit ws)
+          stops_third q f w3 = second_done (stop q (last a b d2.limit) f (like (rest_same d2.limit) w3))
 
-          pub closes : {u2 u3 : List Definition} {k2 k3 : ℕ} {c : Operand} {q : Result Operand LimitReached} → Wrote limit u k u2 k2 (Ok c) (decomposing limit xs) → Wrote limit u2 k2 u3 k3 q (closing limit v a b c) → Wrote limit s n u3 k3 q (decomposing limit ws)
-          closes w3 w4 = second_done (chain (last a b) (like rest_same w3) w4)
+          pub closes : {d3 d4 : Draft} {c : Operand} {q : Result Operand LimitReached} → Wrote d2 d3 (Ok c) (decomposing d2.limit xs) → Wrote d3 d4 q (closing d3.limit v a b c) → Wrote d0 d4 q (decomposing d0.limit ws)
+          closes w3 w4 = second_done (next (last a b) (like (rest_same d2.limit) w3) w4)
 
 module _ (v : Part) (ws : List Way) (e : At v ≡ start_of ws) {os us : List Way} (o : os ≡ beside (working_of v) ws) where
   pub second_smaller : {t : ℕ} → us ≡ under (out_of v) os → size ws ≡ t → size us < t

@@ -3,4 +3,3 @@ pub mod Begun
 pub mod Copied
 pub mod Fuel
 pub mod Decomposed
-pub mod Lent

@@ -1,17 +1,14 @@
 ghost use Rattle.std.specs.Prelude.{◌≡◌, ◌≤◌, length, take};
-ghost use Rattle.table.specs.Kept.{literals, ways_of};
+ghost use Rattle.table.specs.Kept.{literals};
 ghost use Rattle.definitions.specs.Writing.{Wrote};
 ghost use Rattle.working.specs.Records.{ways_in};
-ghost use Rattle.working.specs.Translation.{Translated};
 ghost use Rattle.decomposition.specs.Decomposition.{under, beside, start_of, closing, decomposing};
 
-use definitions::combine::{LimitReached, combine};
-use definitions::operand::{Definition, Operand, Operator};
+use definitions::draft::{Draft, LimitReached};
+use definitions::operand::{Operand, Operator};
 use rack::part::{Literal, Part, Sign};
-use rack::refusal::Refusal;
-use rack::way::WayRecord;
-use working::gather::gather;
 use working::record::WorkingRecord;
+use working::rule::Writer;
 
 /// What a list of ways begins with: there is no way, some way has no literal left, or the first literal is of this part.
 #[derive(Clone, Copy)]
@@ -77,23 +74,14 @@ fn close(
     working: Operand,
     out: Operand,
     rest: Operand,
-    slots: &mut [Definition; 4096],
-    count: &mut usize,
-    limit: usize,
+    draft: &mut Draft<'_>,
 ) -> Result<Operand, LimitReached>
-    ensures { Wrote limit slots.old count.old slots.new count.new result (closing limit part working out rest) }
+    ensures { Wrote draft.old draft.new result (closing draft.old.limit part working out rest) }
 {
-    let works = combine(
-        slots,
-        count,
-        limit,
-        Operator::Meet,
-        Operand::Works(part),
-        working,
-    )?;
-    let fails = combine(slots, count, limit, Operator::Meet, Operand::Out(part), out)?;
-    let either = combine(slots, count, limit, Operator::Join, works, fails)?;
-    combine(slots, count, limit, Operator::Join, either, rest)
+    let works = draft.combine(Operator::Meet, Operand::Works(part), working)?;
+    let fails = draft.combine(Operator::Meet, Operand::Out(part), out)?;
+    let either = draft.combine(Operator::Join, works, fails)?;
+    draft.combine(Operator::Join, either, rest)
 }
 
 /// Writes the ways of `list`, which are spent on it: first those that hold the part working, then of the others those that hold it
@@ -101,12 +89,10 @@ fn close(
 fn decompose(
     list: &mut [WorkingRecord],
     room: &mut [WorkingRecord],
-    slots: &mut [Definition; 4096],
-    count: &mut usize,
-    limit: usize,
+    draft: &mut Draft<'_>,
 ) -> Result<Operand, LimitReached>
     requires enough { literals (ways_in list.old) ≤ length room.old }
-    ensures { Wrote limit slots.old count.old slots.new count.new result (decomposing limit (ways_in list.old)) }
+    ensures { Wrote draft.old draft.new result (decomposing draft.old.limit (ways_in list.old)) }
 {
     let part = match begins(list) {
         Start::Nothing => return Ok(Operand::Never),
@@ -123,35 +109,29 @@ fn decompose(
     };
     let n = copy_under(list, works, room);
     let (ways, spare) = room.split_at_mut(n);
-    let working = decompose(ways, spare, slots, count, limit)?;
+    let working = decompose(ways, spare, draft)?;
     let k = keep_beside(list, works);
     let (others, _) = list.split_at_mut(k);
     let m = copy_under(others, fails, room);
     let (ways, spare) = room.split_at_mut(m);
-    let out = decompose(ways, spare, slots, count, limit)?;
+    let out = decompose(ways, spare, draft)?;
     let j = keep_beside(others, fails);
-    let rest = decompose(&mut others[0..j], room, slots, count, limit)?;
-    close(part, working, out, rest, slots, count, limit)
+    let rest = decompose(&mut others[0..j], room, draft)?;
+    close(part, working, out, rest, draft)
 }
 
-/// Writes the kept ways of a table behind the first `count` definitions, and answers their operand and how many definitions it
-/// added. Refuses where the working records are short, and where the limit is reached; a limit above 4,096 counts as 4,096.
-pub fn decomposition(
-    ways: &[WayRecord],
-    work: &mut [WorkingRecord],
-    slots: &mut [Definition; 4096],
-    count: &mut usize,
-    limit: usize,
-) -> Result<(Operand, usize), Refusal>
-    ensures { Translated decomposing limit (ways_of ways.now) work.old work.new slots.old count.old slots.new count.new result }
-{
-    let before = *count;
-    let Some(n) = gather(ways, work) else {
-        return Err(Refusal::MemoryShort);
-    };
-    let (list, room) = work.split_at_mut(n);
-    match decompose(list, room, slots, count, limit) {
-        Ok(operand) => Ok((operand, *count - before)),
-        Err(_) => Err(Refusal::LimitReached),
+/// The method that writes the ways by the part that comes first in them.
+#[derive(Clone, Copy)]
+pub struct Decomposition;
+
+impl Writer for Decomposition {
+    ghost rule = { decomposing };
+
+    fn write(
+        ways: &mut [WorkingRecord],
+        room: &mut [WorkingRecord],
+        draft: &mut Draft<'_>,
+    ) -> Result<Operand, LimitReached> {
+        decompose(ways, room, draft)
     }
 }

@@ -9,14 +9,14 @@ use Rattle.decomposition.proofs.Decomposed.{front_ways, from_start, spare_serves
 use Rattle.decomposition.proofs.split.+decompose.Goals as goal
 
 pub returns-in-Anything : goal.returns-in-Anything
-returns-in-Anything t c = like (by_anything c.args.limit (ways_in c.args.list.now) c.in-Anything.ensures) (at_once Always)
+returns-in-Anything t c = like (by_anything c.args.draft.now.limit (ways_in c.args.list.now) c.in-Anything.ensures) (at_once Always)
 
 pub decompose-requires : goal.decompose-requires
 decompose-requires t c =
     let ws = ways_in c.args.list.now in
     let cut = c.split_at_mut-ways.ensures in
     let p = front_ways _ _ cut.value cut.front_len c.copy_under-n.ensures.ways in (
-      first_smaller c.args.limit c.in-At.part ws c.in-At.ensures p c.decreases,
+      first_smaller c.in-At.part ws c.in-At.ensures p c.decreases,
       spare_serves (working_of c.in-At.part) ws _ _ p cut.front_len cut.back_len (omega (arith, c.requires.enough, c.copy_under-n.auto.room)),
     )
 
@@ -24,7 +24,7 @@ pub returns-in_err-working : goal.returns-in_err-working
 returns-in_err-working t c =
     let cut = c.split_at_mut-ways.ensures in
     let p = front_ways _ _ cut.value cut.front_len c.copy_under-n.ensures.ways in
-    stops_first c.args.limit c.in-At.part (ways_in c.args.list.now) c.in-At.ensures p _ c.from_residual.ensures.0 c.in_err-working.ensures
+    stops_first c.in-At.part (ways_in c.args.list.now) c.in-At.ensures p _ c.from_residual.ensures.0 c.in_err-working.ensures
 
 pub copy_under-m-requires : goal.copy_under-m-requires
 copy_under-m-requires t c =
@@ -51,7 +51,7 @@ returns-in_err-out t c =
     let o = front_ways _ _ beside_cut.value beside_cut.front_len c.keep_beside-k.ensures.ways in
     let cut = c.split_at_mut-ways-2.ensures in
     let p2 = front_ways _ _ cut.value cut.front_len c.copy_under-m.ensures.ways in
-    stops_second c.args.limit c.in-At.part (ways_in c.args.list.now) c.in-At.ensures p c.in_ok-working.ensures o p2 _ c.from_residual-in_err-out.ensures.0 c.in_err-out.ensures
+    stops_second c.in-At.part (ways_in c.args.list.now) c.in-At.ensures p c.in_ok-working.ensures o p2 _ c.from_residual-in_err-out.ensures.0 c.in_err-out.ensures
 
 pub decompose-requires-3 : goal.decompose-requires-3
 decompose-requires-3 t c =
@@ -72,7 +72,7 @@ returns-in_err-rest t c =
     let cut = c.split_at_mut-ways-2.ensures in
     let p2 = front_ways _ _ cut.value cut.front_len c.copy_under-m.ensures.ways in
     let p3 = from_start c.keep_beside-j.new.list c.keep_beside-j.result c.keep_beside-j.ensures.ways in
-    stops_third c.args.limit c.in-At.part (ways_in c.args.list.now) c.in-At.ensures p c.in_ok-working.ensures o p2 c.in_ok-out.ensures p3 _ c.from_residual-in_err-rest.ensures.0 c.in_err-rest.ensures
+    stops_third c.in-At.part (ways_in c.args.list.now) c.in-At.ensures p c.in_ok-working.ensures o p2 c.in_ok-out.ensures p3 _ c.from_residual-in_err-rest.ensures.0 c.in_err-rest.ensures
 
 pub returns : goal.returns
 returns t c =
@@ -83,4 +83,4 @@ returns t c =
     let cut = c.split_at_mut-ways-2.ensures in
     let p2 = front_ways _ _ cut.value cut.front_len c.copy_under-m.ensures.ways in
     let p3 = from_start c.keep_beside-j.new.list c.keep_beside-j.result c.keep_beside-j.ensures.ways in
-    closes c.args.limit c.in-At.part (ways_in c.args.list.now) c.in-At.ensures p c.in_ok-working.ensures o p2 c.in_ok-out.ensures p3 c.in_ok-rest.ensures c.close.ensures
+    closes c.in-At.part (ways_in c.args.list.now) c.in-At.ensures p c.in_ok-working.ensures o p2 c.in_ok-out.ensures p3 c.in_ok-rest.ensures c.close.ensures
