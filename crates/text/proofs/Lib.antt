@@ -1,2 +1,2 @@
-pub mod Literals
-pub mod FirstLine
+mod FirstLine
+pub mod Pairs
