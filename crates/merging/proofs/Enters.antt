@@ -1,5 +1,5 @@
 -- A mark reached, a place of a way or a way entered, one at a time, as `reaching`, `entering` and `entering_all` have it.
-use Rattle.std.proofs.Common.{◌≡◌, ℕ, ◌+◌, ◌-◌, ◌<◌, ◌≤◌, true, List, [], ◌∷◌, length, get_or, take, drop, set, Some, None, Option, sym, refl, ap, ◌∙◌, subst, arith}
+use Rattle.std.proofs.Common.{◌≡◌, ℕ, ◌+◌, ◌<◌, ◌≤◌, true, List, [], ◌∷◌, length, get_or, take, drop, set, Some, None, Option, sym, refl, ap, ◌∙◌, arith}
 use Rattle.std.proofs.lemmas.List.{length-take-le, take_more_set, at_drop_more, at_drop_all}
 use Rattle.rack.specs.declared.part.Literal.{Literal}
 use Rattle.rack.specs.Way.{Way}
@@ -10,21 +10,17 @@ use Rattle.working.specs.Records.{left_in, way_in, ways_in, size}
 use Rattle.merging.specs.Trie.{is_mark, branch_at, end_at, reached, or_put, reaching, entering, entering_all}
 use Rattle.merging.proofs.Marks.{found, missing}
 
--- `&s[0..n]` as the checker reads it
-whole : {X : Type 0} (P : List X → Type 0) (n : ℕ) (vs : List X) → P (take (n - 0) vs) → P (take n vs)
-whole P n vs h = let at : n - 0 ≡ n = omega arith in subst (λ k. P (take k vs)) at h
-
 module _ (n : ℕ) (vs : List WorkingRecord) (r : WorkingRecord) (m : is_mark r ≡ true) where
-  pub reached_found : (i : ℕ) → FirstAt (take (n - 0) vs) r i → reached (i + 1) (take n vs) ≡ reaching r (take n vs)
+  pub reached_found : (i : ℕ) → FirstAt (take n vs) r i → reached (i + 1) (take n vs) ≡ reaching r (take n vs)
   reached_found i h =
       let at : 1 + i ≡ i + 1 = omega arith in
-      sym (ap (λ o. or_put o r (take n vs)) (found r m (take n vs) 1 i (whole (λ xs. FirstAt xs r i) n vs h) ∙ ap (λ k. Some k) at))
+      sym (ap (λ o. or_put o r (take n vs)) (found r m (take n vs) 1 i h ∙ ap (λ k. Some k) at))
 
-  pub reached_new : n < length vs → Nowhere (take (n - 0) vs) r → reached (n + 1) (take (n + 1) (set vs n r)) ≡ reaching r (take n vs)
+  pub reached_new : n < length vs → Nowhere (take n vs) r → reached (n + 1) (take (n + 1) (set vs n r)) ≡ reaching r (take n vs)
   reached_new room new =
       let long : length (take n vs) ≡ n = length-take-le n vs (omega arith) in
       sym (
-      ap (λ o. or_put o r (take n vs)) (missing r m (take n vs) 1 (whole (λ xs. Nowhere xs r) n vs new))
+      ap (λ o. or_put o r (take n vs)) (missing r m (take n vs) 1 new)
       ∙ (λ k. reached (long k + 1) (sym (take_more_set vs n r room) k))
       )
 

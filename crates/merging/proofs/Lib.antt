@@ -6,4 +6,3 @@ pub mod Filling
 pub mod Linked
 pub mod Depth
 pub mod Turns
-pub mod Merged

@@ -1,32 +1,22 @@
 ghost use Rattle.std.specs.Prelude.{◌≡◌, ◌+◌, ◌<◌, ◌≤◌, true, [], length, take};
-ghost use Rattle.table.specs.Kept.{ways_of};
 ghost use Rattle.definitions.specs.Writing.{Wrote};
 ghost use Rattle.working.specs.Records.{left_in, ways_in, size};
-ghost use Rattle.working.specs.Translation.{Translated};
 ghost use Rattle.merging.specs.Merging.{merging};
 ghost use Rattle.merging.specs.Trie.{is_mark, branch_of, ended, reached, reaching, entering, entering_all, merge_at};
 
-use definitions::combine::{LimitReached, combine};
-use definitions::operand::{Definition, Operand, Operator};
+use definitions::draft::{Draft, LimitReached};
+use definitions::operand::{Operand, Operator};
 use rack::find::find_first;
 use rack::part::Literal;
-use rack::refusal::Refusal;
-use rack::way::WayRecord;
-use working::gather::gather;
-use working::record::{Node, WorkingRecord, operand_of};
+use working::record::{Node, WorkingRecord};
+use working::rule::Writer;
 
 /// The literal, where the record is a branch of the node.
 fn branch_of(record: &WorkingRecord, node: Node) -> Option<Literal>
     ensures { result ≡ branch_of node.0 «record».now }
 {
     match record {
-        WorkingRecord::Branch { parent, literal } => {
-            if *parent == node {
-                Some(*literal)
-            } else {
-                None
-            }
-        }
+        WorkingRecord::Branch { parent, literal } if *parent == node => Some(*literal),
         _ => None,
     }
 }
@@ -46,7 +36,7 @@ fn reach(records: &mut [WorkingRecord], count: &mut usize, wanted: WorkingRecord
     ensures value { reached result.0 (take count.new records.new) ≡ reaching wanted (take count.old records.old) }
 {
     let n = *count;
-    match find_first(&records[0..n], &wanted) {
+    match find_first(&records[..n], &wanted) {
         Some(i) => Node(i + 1),
         None => {
             records[n] = wanted;
@@ -99,11 +89,9 @@ fn merge(
     records: &[WorkingRecord],
     node: Node,
     height: usize,
-    slots: &mut [Definition; 4096],
-    count: &mut usize,
-    limit: usize,
+    draft: &mut Draft<'_>,
 ) -> Result<Operand, LimitReached>
-    ensures { Wrote limit slots.old count.old slots.new count.new result (merge_at limit height records.now node.0) }
+    ensures { Wrote draft.old draft.new result (merge_at draft.old.limit height records.now node.0) }
 {
     if is_ended(records, node) {
         return Ok(Operand::Always);
@@ -114,40 +102,28 @@ fn merge(
     let mut sofar = Operand::Never;
     for (place, record) in records.iter().enumerate() {
         if let Some(literal) = branch_of(record, node) {
-            let below = merge(records, Node(place + 1), height - 1, slots, count, limit)?;
-            let met = combine(
-                slots,
-                count,
-                limit,
-                Operator::Meet,
-                operand_of(literal),
-                below,
-            )?;
-            sofar = combine(slots, count, limit, Operator::Join, sofar, met)?;
+            let below = merge(records, Node(place + 1), height - 1, draft)?;
+            let met = draft.combine(Operator::Meet, Operand::from(literal), below)?;
+            sofar = draft.combine(Operator::Join, sofar, met)?;
         }
     }
     Ok(sofar)
 }
 
-/// Translates the kept ways of a table by merging: the operand, and how many definitions were added behind the first `count`. Refuses
-/// where the working records are short, and then nothing is written, and where the limit is reached.
-pub fn node_merging(
-    ways: &[WayRecord],
-    work: &mut [WorkingRecord],
-    slots: &mut [Definition; 4096],
-    count: &mut usize,
-    limit: usize,
-) -> Result<(Operand, usize), Refusal>
-    ensures { Translated merging limit (ways_of ways.now) work.old work.new slots.old count.old slots.new count.new result }
-{
-    let before = *count;
-    let Some(n) = gather(ways, work) else {
-        return Err(Refusal::MemoryShort);
-    };
-    let (list, room) = work.split_at_mut(n);
-    let used = fill(list, room);
-    match merge(&room[0..used], Node::ROOT, 24, slots, count, limit) {
-        Ok(operand) => Ok((operand, *count - before)),
-        Err(_) => Err(Refusal::LimitReached),
+/// Merging: ways with a common beginning are written together, by a trie of the ways in the room behind them.
+#[derive(Clone, Copy)]
+pub struct NodeMerging;
+
+impl Writer for NodeMerging {
+    ghost rule = { merging };
+
+    fn write(
+        ways: &mut [WorkingRecord],
+        room: &mut [WorkingRecord],
+        draft: &mut Draft<'_>,
+    ) -> Result<Operand, LimitReached> {
+        let height = room.len();
+        let used = fill(ways, room);
+        merge(&room[..used], Node::ROOT, height, draft)
     }
 }

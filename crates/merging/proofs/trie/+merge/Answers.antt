@@ -10,38 +10,36 @@ use Rattle.merging.proofs.trie.+merge.Goals as goal
 use Rattle.merging.proofs.trie.+merge.Goals.{in-Some+in_ok-below+in_ok-met+in_ok-sofar, in_default}
 
 pub returns-then-is_ended : goal.returns-then-is_ended
-returns-then-is_ended t c = like (is_always c.args.limit c.args.records.now c.args.node.0 c.args.height c.if-is_ended.ensures) (at_once Always)
+returns-then-is_ended t c = like (is_always c.args.draft.now.limit c.args.records.now c.args.node.0 c.args.height c.if-is_ended.ensures) (at_once Always)
 
 pub loop-place-init : goal.loop-place-init
-loop-place-init t c = renamed (its_branches c.args.limit c.args.records.now c.args.node.0 c.args.height c.if-is_ended.ensures c.if-height-eq0.false) begun
+loop-place-init t c = renamed (its_branches c.args.draft.now.limit c.args.records.now c.args.node.0 c.args.height c.if-is_ended.ensures c.if-height-eq0.false) begun
 
 pub returns-in_err-below : goal.returns-in_err-below
 returns-in_err-below t c =
-    let sub = merge_at c.args.limit (c.args.height - 1) c.args.records.now in
-    below_breaks sub c.args.node.0 c.args.records.now c.loop-place.place c.loop-place.sofar c.loop-place.invariant _ c.in-Some.literal _ c.loop-place-test.true c.in-Some.ensures refl {k = c.merge.new.count} {u = c.merge.new.slots} c.from_residual.result c.from_residual.ensures.0 c.in_err-below.ensures
+    below_breaks (c.args.height - 1) c.args.node.0 c.args.records.now c.loop-place.place c.loop-place.sofar c.loop-place.invariant _ c.in-Some.literal _ c.loop-place-test.true c.in-Some.ensures refl c.from_residual.result c.from_residual.ensures.0 c.in_err-below.ensures
 
 pub returns-in_err-met : goal.returns-in_err-met
 returns-in_err-met t c =
-    let sub = merge_at c.args.limit (c.args.height - 1) c.args.records.now in
-    met_breaks sub c.args.node.0 c.args.records.now c.loop-place.place c.loop-place.sofar c.loop-place.invariant _ c.in-Some.literal _ c.loop-place-test.true c.in-Some.ensures c.operand_of.ensures {k = c.merge.new.count} {u = c.merge.new.slots} c.in_ok-below.ensures {k' = c.combine.new.count} {u' = c.combine.new.slots} c.from_residual-in_err-met.result c.from_residual-in_err-met.ensures.0 c.in_err-met.ensures
+    met_breaks (c.args.height - 1) c.args.node.0 c.args.records.now c.loop-place.place c.loop-place.sofar c.loop-place.invariant _ c.in-Some.literal _ c.loop-place-test.true c.in-Some.ensures c.from.ensures c.in_ok-below.ensures c.from_residual-in_err-met.result c.from_residual-in_err-met.ensures.0 c.in_err-met.ensures
 
 pub returns-in_err-sofar : goal.returns-in_err-sofar
 returns-in_err-sofar t c =
-    let sub = merge_at c.args.limit (c.args.height - 1) c.args.records.now in
-    join_breaks sub c.args.node.0 c.args.records.now c.loop-place.place c.loop-place.sofar c.loop-place.invariant _ c.in-Some.literal _ c.loop-place-test.true c.in-Some.ensures c.operand_of.ensures {k = c.merge.new.count} {u = c.merge.new.slots} c.in_ok-below.ensures {k' = c.combine.new.count} {u' = c.combine.new.slots} c.in_ok-met.ensures {k'' = c.combine-in-Some.new.count} {u'' = c.combine-in-Some.new.slots} c.from_residual-in_err-sofar.result c.from_residual-in_err-sofar.ensures.0 c.in_err-sofar.ensures
+    join_breaks (c.args.height - 1) c.args.node.0 c.args.records.now c.loop-place.place c.loop-place.sofar c.loop-place.invariant _ c.in-Some.literal _ c.loop-place-test.true c.in-Some.ensures c.from.ensures c.in_ok-below.ensures c.in_ok-met.ensures c.from_residual-in_err-sofar.result c.from_residual-in_err-sofar.ensures.0 c.in_err-sofar.ensures
 
 pub loop-place-preserved : goal.loop-place-preserved
 loop-place-preserved t c =
-    let sub = merge_at c.args.limit (c.args.height - 1) c.args.records.now in
+    let h = c.args.height - 1 in
     let rs = c.args.records.now in
     let node = c.args.node.0 in
     let i = c.loop-place.place in
-    let rest : Operand → Writing = λ j. join_at c.args.limit sub node (i + 1) j (drop (i + 1) rs) in
+    let limit = c.args.draft.now.limit in
+    let rest : Operand → Writing = λ j. join_at limit (merge_at limit h rs) node (i + 1) j (drop (i + 1) rs) in
     elim c.match-branch_of.branch [
       | in-Some+in_ok-below+in_ok-met+in_ok-sofar w ↦
-          moved {m = w.combine-in-Some.new.count} {t = w.combine-in-Some.new.slots} rest w.slots-is w.count-is w.sofar-is (joins sub node rs i c.loop-place.sofar c.loop-place.invariant _ w.in-Some.literal _ c.loop-place-test.true w.in-Some.ensures w.operand_of.ensures {k = w.merge.new.count} {u = w.merge.new.slots} w.in_ok-below.ensures {k' = w.combine.new.count} {u' = w.combine.new.slots} w.in_ok-met.ensures {k'' = w.combine-in-Some.new.count} {u'' = w.combine-in-Some.new.slots} w.in_ok-sofar.ensures)
-      | in_default w ↦ moved rest w.slots-is w.count-is w.sofar-is (passes sub node rs i c.loop-place.sofar c.loop-place.invariant _ c.loop-place-test.true w.in_default.ensures)
+          moved rest w.draft-is w.sofar-is (joins h node rs i c.loop-place.sofar c.loop-place.invariant _ w.in-Some.literal _ c.loop-place-test.true w.in-Some.ensures w.from.ensures w.in_ok-below.ensures w.in_ok-met.ensures w.in_ok-sofar.ensures)
+      | in_default w ↦ moved rest w.draft-is w.sofar-is (passes h node rs i c.loop-place.sofar c.loop-place.invariant _ c.loop-place-test.true w.in_default.ensures)
     ]
 
 pub returns : goal.returns
-returns t c = past_all (merge_at c.args.limit (c.args.height - 1) c.args.records.now) c.args.node.0 c.args.records.now c.loop-place.place c.loop-place.sofar c.loop-place.invariant c.loop-place-test.false
+returns t c = past_all (c.args.height - 1) c.args.node.0 c.args.records.now c.loop-place.place c.loop-place.sofar c.loop-place.invariant c.loop-place-test.false

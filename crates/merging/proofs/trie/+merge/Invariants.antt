@@ -8,4 +8,4 @@ abbrev pub decreases-merge : goal.decreases-merge
 decreases-merge l = l.height
 
 abbrev pub invariant-loop-place : goal.invariant-loop-place
-invariant-loop-place l = Underway l.limit l.initial.slots l.initial.count l.slots l.count (join_at l.limit (merge_at l.limit (l.height - 1) l.records) l.node.0 l.place l.sofar (drop l.place l.records)) (merge_at l.limit l.height l.records l.node.0)
+invariant-loop-place l = Underway l.initial.draft l.draft (join_at l.fn.draft.limit (merge_at l.fn.draft.limit (l.height - 1) l.records) l.node.0 l.place l.sofar (drop l.place l.records)) (merge_at l.fn.draft.limit l.height l.records l.node.0)
