@@ -6,7 +6,8 @@ use Rattle.rack.specs.declared.part.Literal.{Literal}
 use Rattle.rack.specs.declared.part.Sign.{Sign}
 use Rattle.rack.specs.declared.part.Sign.TheVariants.{Works, Out}
 use Rattle.rack.specs.Way.{Way}
-use Rattle.table.specs.Kept.{holds, turned, opposed, contradictory, same_way, among, keeps, kept_after, kept}
+use Rattle.rack.specs.Sign.{turned}
+use Rattle.table.specs.Kept.{holds, opposed, contradictory, same_way, among, keeps, kept_after, kept}
 use Rattle.table.proofs.KeptWays.{decides_way}
 use Rattle.algebra.specs.Algebra.{Algebra, Lattice, Complemented}
 use Rattle.algebra.specs.Worth.{Settings, signed_worth, literal_worth, way_worth, ways_worth}

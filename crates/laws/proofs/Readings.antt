@@ -8,9 +8,9 @@ use Rattle.rack.specs.declared.part.Literal.{Literal}
 use Rattle.rack.specs.declared.part.Part.{Part}
 use Rattle.rack.specs.declared.part.Sign.{Sign}
 use Rattle.rack.specs.declared.part.Sign.TheVariants.{Works, Out}
-use Rattle.rack.specs.Sign.{sign_code}
+use Rattle.rack.specs.Sign.{sign_code, turned}
 use Rattle.rack.specs.Way.{Way}
-use Rattle.table.specs.Kept.{same_literal, holds, turned, opposed, contradictory, among, keeps, kept_after, kept}
+use Rattle.table.specs.Kept.{same_literal, holds, opposed, contradictory, among, keeps, kept_after, kept}
 use Rattle.definitions.specs.declared.operand.Operand.TheVariants.{Always}
 use Rattle.definitions.specs.Combine.{Writing, give, and_then, choose}
 use Rattle.working.specs.Records.{lacking, has_empty, size}

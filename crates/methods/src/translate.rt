@@ -1,6 +1,6 @@
 ghost use Rattle.table.specs.Kept.{ways_of};
 ghost use Rattle.working.specs.Translation.{Translated};
-ghost use Rattle.methods.specs.Methods.{rule_of, Settled};
+ghost use Rattle.methods.specs.Methods.{rule_of, RolledBack, Settled};
 
 use decomposition::split::Decomposition;
 use definitions::draft::Draft;
@@ -31,10 +31,8 @@ struct Rollback<'d, 'a> {
 }
 
 impl Drop for Rollback<'_, '_> {
-    ghost use Rattle.methods.specs.Rollback.{rolled_back};
-
     fn drop(self)
-        ensures { self.exit.0.now ≡ rolled_back self.entry.back self.entry.draft.now }
+        ensures { RolledBack self.entry.back self.entry.draft.now self.exit.0.now }
     {
         if let Some(count) = self.back {
             self.draft.count = count;
