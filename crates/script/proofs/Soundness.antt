@@ -44,10 +44,6 @@ combined_sound {was} {after} o a b x sound ka kb w =
     let ds = written_in was in
     ∥∥₁_map sound (λ h. (combine_sound was.limit o a b ds (record { answer = x; all = written_in after }) h (known_legal (length ds) a ka) (known_legal (length ds) b kb) (sym w.answer)).1)
 
--- the definitions in front are as they were
-pub same_sound : {was after : Draft} → ∥ Sound (written_in was) ∥₁ → Grown was after → ∥ Sound (take was.count after.slots.now) ∥₁
-same_sound h g = subst (λ ds. ∥ Sound ds ∥₁) (sym g.below) h
-
 -- an outcome that is written comes from what the method wrote
 pub wrote_by : (o : Option State) (ds : List Definition) (t : Bool) (e : Refusal) (x : Operand) (k : ℕ) (all : List Definition) → written x k all ≡ choose t (limited ds o) (refused e) → o ≡ Some (record { answer = x; all = all })
 wrote_by (Some st) ds true e x k all h = λ i. Some (back i)

@@ -1,5 +1,5 @@
 -- The kept ways of a table, one record at a time: what they need, and where they go.
-use Rattle.std.proofs.Common.{◌≡◌, ℕ, ◌+◌, ◌-◌, ◌<◌, ◌≤◌, Bool, true, false, cond, List, [], ◌∷◌, ◌++◌, length, get_or, take, drop, set, Some, None, Option, sym, refl, ap, ◌∙◌, append_assoc, append-nil, arith}
+use Rattle.std.proofs.Common.{◌≡◌, ℕ, ◌+◌, ◌<◌, ◌≤◌, Bool, true, false, cond, List, [], ◌∷◌, ◌++◌, length, get_or, take, drop, set, Some, None, Option, sym, refl, ap, ◌∙◌, append_assoc, append-nil, arith}
 use Rattle.std.proofs.lemmas.List.{length-append, length-map, length-take-le, map_push, take_more, take_more_set, take_all, drop_more, drop-set-lt, take-append-drop}
 use Rattle.rack.specs.declared.part.Literal.{Literal}
 use Rattle.rack.specs.declared.way.WayRecord.{WayRecord}
@@ -16,39 +16,38 @@ onward rs i = kept_after (ways_of (take i rs)) (ways_of (drop i rs))
 
 -- v is the way of record i, and t says whether it is kept
 module _ (rs : List WayRecord) (i : ℕ) (d : WayRecord) (v : Way) (lt : i < length rs) (e : v ≡ way_of (get_or rs i d)) where
-  pub kept_here : (t : Bool) → t ≡ keeps v (ways_of (take (i - 0) rs)) → onward rs i ≡ cond t (v ∷ onward rs (i + 1)) (onward rs (i + 1))
+  pub kept_here : (t : Bool) → t ≡ keeps v (ways_of (take i rs)) → onward rs i ≡ cond t (v ∷ onward rs (i + 1)) (onward rs (i + 1))
   kept_here t f =
-      let z : i - 0 ≡ i = omega arith in
-      kept_at rs i d lt t (f ∙ (λ j. keeps (e j) (ways_of (take (z j) rs)))) ∙ ap (λ w. cond t (w ∷ onward rs (i + 1)) (onward rs (i + 1))) (sym e)
+      kept_at rs i d lt t (f ∙ (λ j. keeps (e j) (ways_of (take i rs)))) ∙ ap (λ w. cond t (w ∷ onward rs (i + 1)) (onward rs (i + 1))) (sym e)
 
   -- what is spare falls as the need does
-  pub spent : (all records spare less : ℕ) → true ≡ keeps v (ways_of (take (i - 0) rs)) → needed (onward rs i) + records ≡ all + spare + 1 → less + (2 + length v) ≡ spare → needed (onward rs (i + 1)) + records ≡ all + less + 1
+  pub spent : (all records spare less : ℕ) → true ≡ keeps v (ways_of (take i rs)) → needed (onward rs i) + records ≡ all + spare + 1 → less + (2 + length v) ≡ spare → needed (onward rs (i + 1)) + records ≡ all + less + 1
   spent all records spare less f h k = let n : needed (onward rs i) ≡ needed (v ∷ onward rs (i + 1)) = ap needed (kept_here true f) in omega arith
 
-  pub passed : (all records spare less : ℕ) → false ≡ keeps v (ways_of (take (i - 0) rs)) → needed (onward rs i) + records ≡ all + spare + 1 → less ≡ spare → needed (onward rs (i + 1)) + records ≡ all + less + 1
+  pub passed : (all records spare less : ℕ) → false ≡ keeps v (ways_of (take i rs)) → needed (onward rs i) + records ≡ all + spare + 1 → less ≡ spare → needed (onward rs (i + 1)) + records ≡ all + less + 1
   passed all records spare less f h k = let n : needed (onward rs i) ≡ needed (onward rs (i + 1)) = ap needed (kept_here false f) in omega arith
 
-  pub lacks : (all records spare : ℕ) → true ≡ keeps v (ways_of (take (i - 0) rs)) → needed (onward rs i) + records ≡ all + spare + 1 → spare < 2 + length v → all ≤ records → ⊥
+  pub lacks : (all records spare : ℕ) → true ≡ keeps v (ways_of (take i rs)) → needed (onward rs i) + records ≡ all + spare + 1 → spare < 2 + length v → all ≤ records → ⊥
   lacks all records spare f h k le = let n : needed (onward rs i) ≡ needed (v ∷ onward rs (i + 1)) = ap needed (kept_here true f) in omega arith
 
   module _ (work : List WorkingRecord) (n : ℕ) (all : List Way) (room : n ≤ length work) (so : ways_in (take n work) ++ onward rs i ≡ all) where
     long : length (ways_in (take n work)) ≡ n
     long = length-map (take n work) way_in ∙ length-take-le n work room
 
-    pub has_place : true ≡ keeps v (ways_of (take (i - 0) rs)) → needed all ≤ length work → n < length work
+    pub has_place : true ≡ keeps v (ways_of (take i rs)) → needed all ≤ length work → n < length work
     has_place f le =
         let here : length (onward rs i) ≡ length (v ∷ onward rs (i + 1)) = ap length (kept_here true f) in
         let sum : length (ways_in (take n work)) + length (onward rs i) ≡ length all = sym (length-append (ways_in (take n work)) (onward rs i)) ∙ ap length so in
         omega (arith, long)
 
-    pub put : (r : WorkingRecord) → n < length work → way_in r ≡ v → true ≡ keeps v (ways_of (take (i - 0) rs)) → ways_in (take (n + 1) (set work n r)) ++ onward rs (i + 1) ≡ all
+    pub put : (r : WorkingRecord) → n < length work → way_in r ≡ v → true ≡ keeps v (ways_of (take i rs)) → ways_in (take (n + 1) (set work n r)) ++ onward rs (i + 1) ≡ all
     put r lt2 g f =
         ap (λ s. s ++ onward rs (i + 1)) (ap ways_in (take_more_set work n r lt2) ∙ map_push way_in (take n work) r ∙ ap (λ w. ways_in (take n work) ++ w ∷ []) g)
         ∙ append_assoc (ways_in (take n work)) (v ∷ []) (onward rs (i + 1))
         ∙ ap (λ s. ways_in (take n work) ++ s) (sym (kept_here true f))
         ∙ so
 
-    pub skip : false ≡ keeps v (ways_of (take (i - 0) rs)) → ways_in (take n work) ++ onward rs (i + 1) ≡ all
+    pub skip : false ≡ keeps v (ways_of (take i rs)) → ways_in (take n work) ++ onward rs (i + 1) ≡ all
     skip f = ap (λ s. ways_in (take n work) ++ s) (sym (kept_here false f)) ∙ so
 
 pub none_left : (rs : List WayRecord) (i : ℕ) → length rs ≤ i → needed (onward rs i) ≡ 1

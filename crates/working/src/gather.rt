@@ -18,7 +18,7 @@ fn serves(ways: &[WayRecord], records: usize) -> bool
     let mut spare = records - 1;
     for (i, record) in ways.iter().enumerate() {
         let way = record.literals();
-        if is_kept(way, &ways[0..i]) {
+        if is_kept(way, &ways[..i]) {
             let needed = 2 + way.len();
             if spare < needed {
                 return false;
@@ -52,7 +52,7 @@ pub fn gather(ways: &[WayRecord], work: &mut [WorkingRecord]) -> Option<usize>
     let mut n = 0;
     for (i, record) in ways.iter().enumerate() {
         let way = record.literals();
-        if is_kept(way, &ways[0..i]) {
+        if is_kept(way, &ways[..i]) {
             work[n] = whole(way);
             n += 1;
         }
