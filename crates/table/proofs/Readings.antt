@@ -38,7 +38,7 @@ many : (t : OpenTable) → length (ways_so_far t) ≡ t.entered
 many t = length-map (take t.entered t.records.now) way_of ∙ length-take-le t.entered t.records.now t.within
 
 -- `was` is what the table was when the loop began, t what it is, and l the line that is due, with its bytes as they were read
-module _ (was t : OpenTable) (filled : Filled was t) (all ls : List (List ℕ)) (l bytes : List ℕ) (n : ℕ) (so : body_from t (l ∷ ls) ≡ body_from was all) (due : n ≡ due_line t.entered) (same : bytes ≡ l) where
+module _ {was t : OpenTable} (filled : Filled was t) (all ls : List (List ℕ)) {l bytes : List ℕ} {n : ℕ} (so : body_from t (l ∷ ls) ≡ body_from was all) (due : n ≡ due_line t.entered) (same : bytes ≡ l) where
   reads : (b : Bool) → b ≡ is_end (frame_at n bytes) → is_end (frame_at (due_line (length (ways_so_far t))) l) ≡ b
   reads b e = sym (e ∙ (λ i. is_end (frame_at (due i) (same i))) ∙ ap (λ k. is_end (frame_at (due_line k) l)) (sym (many t)))
 
@@ -47,7 +47,7 @@ module _ (was t : OpenTable) (filled : Filled was t) (all ls : List (List ℕ)) 
     by_entering : (r : Result Way Refusal) → entering t.entered (length t.records.now) l ≡ r → body_from t (l ∷ ls) ≡ by_body (length t.records.now) t.number.0 (ways_so_far t) l ls (entered_by r)
     by_entering r e = entered_line (length t.records.now) t.number.0 (ways_so_far t) l ls (reads false other) r (ap (λ k. entering k (length t.records.now) l) (many t) ∙ e)
 
-    module _ (k : WayNumber) (e : Entered t u l k) where
+    module _ {k : WayNumber} (e : Entered t u l k) where
       more : ways_so_far u ≡ ways_so_far t ++ way_of e.written ∷ []
       more =
           (λ i. ways_of (take (e.count i) (e.contents i)))
@@ -75,7 +75,7 @@ module _ (was t : OpenTable) (filled : Filled was t) (all ls : List (List ℕ)) 
                 ∙ ap (λ k. drop k was.records.now) (sym e.count);
           }
 
-    module _ (x : Refusal) (e : Unentered t u l x) where
+    module _ {x : Refusal} (e : Unentered t u l x) where
       pub body_stops : body_from was all ≡ stopped x (ways_so_far u)
       body_stops = sym so ∙ by_entering (Err x) e.line ∙ sym (λ i. stopped x (ways_of (take (e.stays.count i) (e.stays.contents i))))
 
@@ -83,5 +83,5 @@ module _ (was t : OpenTable) (filled : Filled was t) (all ls : List (List ℕ)) 
     by_closing : (r : Result Unit Refusal) → r ≡ closing t.entered l → body_from t (l ∷ ls) ≡ by_body (length t.records.now) t.number.0 (ways_so_far t) l ls (ended_by r)
     by_closing r e = ended_line (length t.records.now) t.number.0 (ways_so_far t) l ls (reads true last) r (ap (λ k. closing k l) (many t) ∙ sym e)
 
-    pub close_stops : (x : Refusal) → Err x ≡ closing t.entered l → body_from was all ≡ stopped x (ways_so_far t)
-    close_stops x e = sym so ∙ by_closing (Err x) e
+    pub close_stops : {x : Refusal} → Err x ≡ closing t.entered l → body_from was all ≡ stopped x (ways_so_far t)
+    close_stops {x} e = sym so ∙ by_closing (Err x) e

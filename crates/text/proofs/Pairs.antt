@@ -125,9 +125,9 @@ pub all_decoded : (xs ys : List ℕ) (n room : ℕ) → n ≡ min (length xs / 2
 all_decoded xs ys n room e le so = so ∙ take_all n (decoded xs) (omega (arith, length_decoded xs))
 
 -- the frame f of a line is a way's with the digits ds, whose bytes stand in ys
-module _ (line : ℕ) (text : List ℕ) (f : Frame) (p : Position) (ds : Bor (List ℕ)) (is : f ≡ frame.Way p ds) (read : Ok (seen_frame f) ≡ frame_at line text) (short : length (digits_of f) ≤ 98) where
-  pub way_line : (ys : List ℕ) (n : ℕ) → n ≡ min (length ds.now / 2) 49 → take n ys ≡ take n (decoded ds.now) → (r : Result Way Refusal) → r ≡ literals_at line (take n ys) → followed r (rising line) ≡ way_at line text
-  way_line ys n many so r e =
+module _ (line : ℕ) (text : List ℕ) {f : Frame} {p : Position} {ds : Bor (List ℕ)} (is : f ≡ frame.Way p ds) (read : Ok (seen_frame f) ≡ frame_at line text) (short : length (digits_of f) ≤ 98) where
+  pub way_line : (ys : List ℕ) {n : ℕ} → n ≡ min (length ds.now / 2) 49 → take n ys ≡ take n (decoded ds.now) → {r : Result Way Refusal} → r ≡ literals_at line (take n ys) → followed r (rising line) ≡ way_at line text
+  way_line ys {n} many so {r} e =
       let few : length ds.now ≤ 98 = subst (λ (g : Frame). length (digits_of g) ≤ 98) is short in
       ap (λ s. followed s (rising line)) (e ∙ ap (literals_at line) (all_decoded ds.now ys n 49 many (omega arith) so))
       ∙ ap (λ s. followed s (way_of_frame line)) (ap (λ g. Ok (seen_frame g)) (sym is) ∙ read)

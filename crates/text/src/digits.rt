@@ -24,6 +24,7 @@ pub fn decode(digits: &[u8], into: &mut [u8]) -> usize
     ensures bytes { take result into.new ≡ take result (decoded digits.now) }
     ensures rest { drop result into.new ≡ drop result into.old }
 {
+    // Kept: places are counted, since the check knows nothing of what is written through a zip of `iter_mut`.
     let (pairs, _) = digits.as_chunks::<2>();
     let n = pairs.len().min(into.len());
     for (i, [high, low]) in pairs[..n].iter().enumerate() {

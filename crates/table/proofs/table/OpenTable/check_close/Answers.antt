@@ -6,4 +6,4 @@ use Rattle.table.proofs.table.OpenTable.check_close.Goals as goal
 pub returns-in_err-end : goal.returns-in_err-end
 returns-in_err-end c =
     let told = err_from_is_err_and c.from_residual.result c.from_residual.ensures.1 in
-    rw (told.1, told.2) (close_refused c.args.self.now.entered c.due-line.result.number.0 c.args.line.now c.due-line.result.bytes.now c.due-line.ensures.number c.due-line.ensures.bytes _ c.in_err-end.ensures)
+    rw (told.1, told.2) (close_refused c.args.self.now.entered c.due-line.ensures.number c.due-line.ensures.bytes c.in_err-end.ensures)

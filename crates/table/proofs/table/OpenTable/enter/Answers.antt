@@ -1,7 +1,6 @@
 -- The way is read at the line that is due, and goes into the next record where there is one.
 use Rattle.std.proofs.Common.{length, set, refl, ap, inl, inr, arith}
 use Rattle.std.proofs.lemmas.Result.{err_from_is_err_and}
-use Rattle.rack.specs.Way.{way_of}
 use Rattle.table.proofs.Tables.{enter_refused, enter_full, enter_housed}
 use Rattle.table.proofs.table.OpenTable.enter.Goals as goal
 use Rattle.table.proofs.table.OpenTable.enter.Goals.{then-n-self-via-then-n-self, then-n-self-via-else-n-self+then-self-ge-MOST_WAYS}
@@ -10,7 +9,7 @@ pub returns-in_err-way-clause-answer : goal.returns-in_err-way-clause-answer
 returns-in_err-way-clause-answer c =
     let told = err_from_is_err_and c.from_residual.result c.from_residual.ensures.1 in
     rw (told.1, told.2) (record {
-      line = enter_refused c.args.self.now.entered c.due-line.result.number.0 c.args.line.now c.due-line.result.bytes.now c.due-line.ensures.number c.due-line.ensures.bytes (length c.args.self.now.records.now) _ c.in_err-way.ensures;
+      line = enter_refused c.args.self.now.entered c.due-line.ensures.number c.due-line.ensures.bytes (length c.args.self.now.records.now) c.in_err-way.ensures;
       stays = record { number = refl; count = refl; contents = refl };
     })
 
@@ -18,7 +17,7 @@ pub returns-then-n-self-clause-answer : goal.returns-then-n-self-clause-answer
 returns-then-n-self-clause-answer c =
     record {
       line =
-          enter_full c.args.self.now.entered c.due-line.result.number.0 c.args.line.now c.due-line.result.bytes.now c.due-line.ensures.number c.due-line.ensures.bytes (length c.args.self.now.records.now) (way_of c.in_ok-way.way) c.at.result c.in_ok-way.ensures c.at.ensures
+          enter_full c.args.self.now.entered c.due-line.ensures.number c.due-line.ensures.bytes (length c.args.self.now.records.now) c.in_ok-way.ensures c.at.ensures
           (elim c.then-n-self.branch [ then-n-self-via-then-n-self w ↦ inl (omega arith) | then-n-self-via-else-n-self+then-self-ge-MOST_WAYS w ↦ inr w.if-self-ge-MOST_WAYS.true ]);
       stays = record { number = refl; count = refl; contents = refl };
     }
@@ -27,7 +26,7 @@ pub returns-clause-answer : goal.returns-clause-answer
 returns-clause-answer c =
     record {
       written = c.in_ok-way.way;
-      line = enter_housed c.args.self.now.entered c.due-line.result.number.0 c.args.line.now c.due-line.result.bytes.now c.due-line.ensures.number c.due-line.ensures.bytes (length c.args.self.now.records.now) (way_of c.in_ok-way.way) c.in_ok-way.ensures (omega arith) c.if-self-ge-MOST_WAYS.false;
+      line = enter_housed c.args.self.now.entered c.due-line.ensures.number c.due-line.ensures.bytes (length c.args.self.now.records.now) c.in_ok-way.ensures (omega arith) c.if-self-ge-MOST_WAYS.false;
       room = omega arith;
       number_is = refl;
       number = refl;
