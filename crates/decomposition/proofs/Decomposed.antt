@@ -1,6 +1,7 @@
 -- The three calls and the close, as `decomposing` has them, in the records that the caller lent.
 use Rattle.std.proofs.Common.{◌≡◌, ℕ, ◌+◌, ◌-◌, ◌<◌, ◌≤◌, true, List, ◌++◌, length, take, is_err, Ok, Err, Result, sym, ap, ◌∙◌, arith}
 use Rattle.std.proofs.lemmas.List.{take_at, length-map}
+use Rattle.std.specs.declared.ops.ControlFlow.TheVariants.{Continue}
 use Rattle.rack.specs.declared.part.Literal.{Literal}
 use Rattle.rack.specs.declared.part.Part.{Part}
 use Rattle.rack.specs.Way.{Way}
@@ -13,7 +14,6 @@ use Rattle.definitions.specs.Writing.{Wrote}
 use Rattle.definitions.proofs.Written.{chain, stop, like}
 use Rattle.working.specs.declared.record.WorkingRecord.{WorkingRecord}
 use Rattle.working.specs.Records.{ways_in, size}
-use Rattle.decomposition.specs.declared.split.Start.TheVariants.{At}
 use Rattle.decomposition.specs.Decomposition.{working_of, out_of, under, beside, start_of, closing, decomposing}
 use Rattle.decomposition.proofs.Parted.{under_small, beside_literals, working_falls, out_falls, rest_falls}
 use Rattle.decomposition.proofs.Fuel.{decomposed_by_part}
@@ -42,7 +42,7 @@ pub next : {was mid after : Draft} {F : Writing} {x : Operand} {q : Result Opera
 next {was} {x = x} G a b = chain (G was.limit) a (like (ap (λ l. G l x) (sym a.grown.limit)) b)
 
 -- v is the part that comes first in ws, and us are the ways that hold it working
-module _ (v : Part) (ws : List Way) (e : At v ≡ start_of ws) {us : List Way} (p : us ≡ under (working_of v) ws) where
+module _ (v : Part) (ws : List Way) (e : Continue v ≡ start_of ws) {us : List Way} (p : us ≡ under (working_of v) ws) where
   abbrev others : List Way
   others = beside (working_of v) ws
 
@@ -88,7 +88,7 @@ module _ (v : Part) (ws : List Way) (e : At v ≡ start_of ws) {us : List Way} (
           pub closes : {d3 d4 : Draft} {c : Operand} {q : Result Operand LimitReached} → Wrote d2 d3 (Ok c) (decomposing d2.limit xs) → Wrote d3 d4 q (closing d3.limit v a b c) → Wrote d0 d4 q (decomposing d0.limit ws)
           closes w3 w4 = second_done (next (last a b) (like (rest_same d2.limit) w3) w4)
 
-module _ (v : Part) (ws : List Way) (e : At v ≡ start_of ws) {os us : List Way} (o : os ≡ beside (working_of v) ws) where
+module _ (v : Part) (ws : List Way) (e : Continue v ≡ start_of ws) {os us : List Way} (o : os ≡ beside (working_of v) ws) where
   pub second_smaller : {t : ℕ} → us ≡ under (out_of v) os → size ws ≡ t → size us < t
   second_smaller p m = omega (arith, out_falls v ws (sym e), ap size (p ∙ ap (under (out_of v)) o))
 

@@ -7,32 +7,21 @@ ghost use Rattle.decomposition.specs.Decomposition.{under, beside, start_of, clo
 use definitions::draft::{Draft, LimitReached};
 use definitions::operand::{Operand, Operator};
 use rack::part::{Literal, Part, Sign};
+use std::ops::ControlFlow;
 use working::record::WorkingRecord;
 use working::rule::Writer;
 
-/// What a list of ways begins with: there is no way, some way has no literal left, or the first literal is of this part.
-#[derive(Clone, Copy)]
-enum Start {
-    Nothing,
-    Anything,
-    At(Part),
-}
-
-/// What the ways begin with.
-fn begins(list: &[WorkingRecord]) -> Start
+/// The part of the first literal of the first way; or the constant that the ways are worth at once: always where a way has no literal
+/// left, and never where there is no way.
+fn begins(list: &[WorkingRecord]) -> ControlFlow<Operand, Part>
     ensures { result ≡ start_of (ways_in list.now) }
 {
-    for record in list {
-        if record.first().is_none() {
-            return Start::Anything;
-        }
+    if list.iter().any(|record| record.first().is_none()) {
+        return ControlFlow::Break(Operand::Always);
     }
-    if list.is_empty() {
-        return Start::Nothing;
-    }
-    match list[0].first() {
-        Some(literal) => Start::At(literal.part),
-        None => Start::Anything,
+    match list.first().and_then(WorkingRecord::first) {
+        Some(literal) => ControlFlow::Continue(literal.part),
+        None => ControlFlow::Break(Operand::Never),
     }
 }
 
@@ -95,9 +84,8 @@ fn decompose(
     ensures { Wrote draft.old draft.new result (decomposing draft.old.limit (ways_in list.old)) }
 {
     let part = match begins(list) {
-        Start::Nothing => return Ok(Operand::Never),
-        Start::Anything => return Ok(Operand::Always),
-        Start::At(part) => part,
+        ControlFlow::Continue(part) => part,
+        ControlFlow::Break(constant) => return Ok(constant),
     };
     let works = Literal {
         part,
