@@ -1,7 +1,5 @@
 -- More levels than the size of the list change nothing, so that `decomposing` is given by what the ways begin with.
-use Rattle.std.proofs.Common.{◌≡◌, ℕ, zero, suc, ◌<◌, ◌≤◌, List, [], ◌∷◌, sym, refl, ap, ◌∙◌, arith}
-use Rattle.std.specs.declared.ops.ControlFlow.{ControlFlow}
-use Rattle.std.specs.declared.ops.ControlFlow.TheVariants.{Continue, Break}
+use Rattle.std.proofs.Common.{◌≡◌, ℕ, zero, suc, ◌<◌, ◌≤◌, List, [], ◌∷◌, ControlFlow, Continue, Break, sym, refl, ap, ◌∙◌, arith}
 use Rattle.rack.specs.declared.part.Part.{Part}
 use Rattle.rack.specs.Way.{Way}
 use Rattle.definitions.specs.declared.operand.Operand.{Operand}

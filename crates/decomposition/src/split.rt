@@ -25,36 +25,33 @@ fn begins(list: &[WorkingRecord]) -> ControlFlow<Operand, Part>
     }
 }
 
-/// Copies the ways that hold the literal to the front of `room`, each without it, and answers how many they are.
-fn copy_under(list: &[WorkingRecord], literal: Literal, room: &mut [WorkingRecord]) -> usize
-    requires { literals (ways_in list.now) ≤ length room.old }
-    ensures fits { result ≤ length room.new }
-    ensures ways { ways_in (take result room.new) ≡ under literal (ways_in list.now) }
+/// Moves the ways that hold the literal to the front of `room`, each without it, and the others to the front of the list. Answers how
+/// many were moved there, and how many are left here.
+fn divide(
+    list: &mut [WorkingRecord],
+    literal: Literal,
+    room: &mut [WorkingRecord],
+) -> (usize, usize)
+    requires { literals (ways_in list.old) ≤ length room.old }
+    ensures held_fit { result.0 ≤ length room.new }
+    ensures held { ways_in (take result.0 room.new) ≡ under literal (ways_in list.old) }
+    ensures left_fit { result.1 ≤ length list.new }
+    ensures left { ways_in (take result.1 list.new) ≡ beside literal (ways_in list.old) }
 {
-    let mut n = 0;
-    for record in list {
-        if record.holds(literal) {
-            room[n] = record.without(literal);
-            n += 1;
-        }
-    }
-    n
-}
-
-/// Moves the ways that do not hold the literal to the front, and answers how many they are.
-fn keep_beside(list: &mut [WorkingRecord], literal: Literal) -> usize
-    ensures fits { result ≤ length list.new }
-    ensures ways { ways_in (take result list.new) ≡ beside literal (ways_in list.old) }
-{
-    let mut n = 0;
+    let mut held = 0;
+    let mut left = 0;
+    // Kept: the records are lent, without a heap, and a slice has no method that keeps some of its elements in place.
     for i in 0..list.len() {
         let record = list[i];
-        if !record.holds(literal) {
-            list[n] = record;
-            n += 1;
+        if record.holds(literal) {
+            room[held] = record.without(literal);
+            held += 1;
+        } else {
+            list[left] = record;
+            left += 1;
         }
     }
-    n
+    (held, left)
 }
 
 /// Meets each literal of the part with what its ways gave, joins the two, and joins that with what the rest gave.
@@ -95,16 +92,14 @@ fn decompose(
         part,
         sign: Sign::Out,
     };
-    let n = copy_under(list, works, room);
-    let (ways, spare) = room.split_at_mut(n);
+    let (held, left) = divide(list, works, room);
+    let (ways, spare) = room.split_at_mut(held);
     let working = decompose(ways, spare, draft)?;
-    let k = keep_beside(list, works);
-    let (others, _) = list.split_at_mut(k);
-    let m = copy_under(others, fails, room);
-    let (ways, spare) = room.split_at_mut(m);
+    let others = &mut list[..left];
+    let (held, left) = divide(others, fails, room);
+    let (ways, spare) = room.split_at_mut(held);
     let out = decompose(ways, spare, draft)?;
-    let j = keep_beside(others, fails);
-    let rest = decompose(&mut others[0..j], room, draft)?;
+    let rest = decompose(&mut others[..left], room, draft)?;
     close(part, working, out, rest, draft)
 }
 
