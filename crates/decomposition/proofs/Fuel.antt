@@ -1,12 +1,10 @@
 -- More levels than the size of the list change nothing, so that `decomposing` is given by what the ways begin with.
-use Rattle.std.proofs.Common.{◌≡◌, ℕ, zero, suc, ◌<◌, ◌≤◌, List, [], ◌∷◌, sym, refl, ap, ◌∙◌, arith}
+use Rattle.std.proofs.Common.{◌≡◌, ℕ, zero, suc, ◌<◌, ◌≤◌, List, [], ◌∷◌, ControlFlow, Continue, Break, sym, refl, ap, ◌∙◌, arith}
 use Rattle.rack.specs.declared.part.Part.{Part}
 use Rattle.rack.specs.Way.{Way}
-use Rattle.definitions.specs.declared.operand.Operand.TheVariants.{Never, Always}
+use Rattle.definitions.specs.declared.operand.Operand.{Operand}
 use Rattle.definitions.specs.Combine.{Writing, give, and_then}
 use Rattle.working.specs.Records.{size}
-use Rattle.decomposition.specs.declared.split.Start.{Start}
-use Rattle.decomposition.specs.declared.split.Start.TheVariants.{Nothing, Anything, At}
 use Rattle.decomposition.specs.Decomposition.{working_of, out_of, under, beside, start_of, closing, by_part, by_start, decompose_in, decomposing}
 use Rattle.decomposition.proofs.Parted.{working_falls, out_falls, rest_falls}
 
@@ -14,10 +12,9 @@ abbrev three : ℕ → Part → Writing → Writing → Writing → Writing
 three limit v x y z = and_then x (λ a. and_then y (λ b. and_then z (λ c. closing limit v a b c)))
 
 -- two ways to write the smaller lists that agree give the same of the whole
-same_start : (limit : ℕ) (f g : List Way → Writing) (ws : List Way) → ((us : List Way) → size us < size ws → f us ≡ g us) → (s : Start) → start_of ws ≡ s → by_start limit f ws s ≡ by_start limit g ws s
-same_start limit f g ws h Nothing e = refl
-same_start limit f g ws h Anything e = refl
-same_start limit f g ws h (At v) e =
+same_start : (limit : ℕ) (f g : List Way → Writing) (ws : List Way) → ((us : List Way) → size us < size ws → f us ≡ g us) → (s : ControlFlow Operand Part) → start_of ws ≡ s → by_start limit f ws s ≡ by_start limit g ws s
+same_start limit f g ws h (Break x) e = refl
+same_start limit f g ws h (Continue v) e =
     let others = beside (working_of v) ws in
     let e1 = h (under (working_of v) ws) (working_falls v ws e) in
     let e2 = h (under (out_of v) others) (out_falls v ws e) in
@@ -37,11 +34,9 @@ decomposed_by_start limit ws =
     same_fuel limit (size ws) (suc (size ws)) ws (omega arith) (omega arith)
     ∙ same_start limit (decompose_in limit (size ws)) (decomposing limit) ws (λ us l. same_fuel limit (size ws) (size us) us (omega arith) (omega arith)) (start_of ws) refl
 
-pub decomposed_by_part : (limit : ℕ) (v : Part) (ws : List Way) → At v ≡ start_of ws → decomposing limit ws ≡ by_part limit (decomposing limit) v ws (beside (working_of v) ws)
+pub decomposed_by_part : (limit : ℕ) (v : Part) (ws : List Way) → Continue v ≡ start_of ws → decomposing limit ws ≡ by_part limit (decomposing limit) v ws (beside (working_of v) ws)
 decomposed_by_part limit v ws e = decomposed_by_start limit ws ∙ ap (by_start limit (decomposing limit) ws) (sym e)
 
-pub by_nothing : (limit : ℕ) (ws : List Way) → Nothing ≡ start_of ws → decomposing limit ws ≡ give Never
-by_nothing limit ws e = decomposed_by_start limit ws ∙ ap (by_start limit (decomposing limit) ws) (sym e)
-
-pub by_anything : (limit : ℕ) (ws : List Way) → Anything ≡ start_of ws → decomposing limit ws ≡ give Always
-by_anything limit ws e = decomposed_by_start limit ws ∙ ap (by_start limit (decomposing limit) ws) (sym e)
+-- ways that are worth a constant at once are written as that
+pub decomposed_by_constant : (limit : ℕ) (x : Operand) (ws : List Way) → Break x ≡ start_of ws → decomposing limit ws ≡ give x
+decomposed_by_constant limit x ws e = decomposed_by_start limit ws ∙ ap (by_start limit (decomposing limit) ws) (sym e)

@@ -1,5 +1,5 @@
 pub mod Parted
-pub mod Begun
-pub mod Copied
+pub mod Divided
 pub mod Fuel
 pub mod Decomposed
+pub mod Begun

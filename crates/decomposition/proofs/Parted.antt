@@ -1,5 +1,5 @@
 -- How large the kinds of ways are: each that is written under a literal loses one at least, and the first way is never among the rest.
-use Rattle.std.proofs.Common.{◌≡◌, ℕ, ◌<◌, ◌≤◌, Bool, true, false, cond, not, ◌&&◌, ◌||◌, eqb, List, [], ◌∷◌, map, length, filter, refl, ap, arith}
+use Rattle.std.proofs.Common.{◌≡◌, ℕ, ◌<◌, ◌≤◌, Bool, true, false, cond, not, ◌&&◌, ◌||◌, eqb, List, [], ◌∷◌, Continue, Break, map, length, filter, refl, ap, arith}
 use Rattle.std.proofs.lemmas.Bool.{eq-eqb, false≢true}
 use Rattle.rack.specs.declared.part.Literal.{Literal}
 use Rattle.rack.specs.declared.part.Part.{Part}
@@ -8,9 +8,9 @@ use Rattle.rack.specs.declared.part.Sign.TheVariants.{Works, Out}
 use Rattle.rack.specs.Sign.{sign_code}
 use Rattle.rack.specs.Way.{Way}
 use Rattle.table.specs.Kept.{same_literal, holds, literals}
+use Rattle.definitions.specs.declared.operand.Operand.TheVariants.{Always}
 use Rattle.definitions.specs.Combine.{choose}
 use Rattle.working.specs.Records.{lacking, has_empty, size}
-use Rattle.decomposition.specs.declared.split.Start.TheVariants.{Anything, At}
 use Rattle.decomposition.specs.Decomposition.{working_of, out_of, under, beside, start_of}
 
 kept_shorter : (p : Literal → Bool) (w : Way) → length (filter p w) ≤ length w
@@ -72,23 +72,23 @@ first_falls : (v : Part) (l : Literal) (w : Way) (ws : List Way) → l.part ≡ 
 first_falls v l w ws e =
     one_less (λ u. not (holds (working_of v) u)) (λ u. not (holds (out_of v) u)) (l ∷ w) ws (one_sign (eqb l.part.0 v.0) l.sign (holds (working_of v) w) (holds (out_of v) w) (eq-eqb l.part.0 v.0 (ap (λ p. p.0) e)))
 
-some_way : (v : Part) (ws : List Way) → start_of ws ≡ At v → 0 < length ws
+some_way : (v : Part) (ws : List Way) → start_of ws ≡ Continue v → 0 < length ws
 some_way v [] e = let z : ◌≡◌ {A = ℕ} 0 1 = cc in absurd (omega arith)
 some_way v (w ∷ ws) e = omega arith
 
 -- the three kinds are smaller than the whole
-module _ (v : Part) (ws : List Way) (e : start_of ws ≡ At v) where
+module _ (v : Part) (ws : List Way) (e : start_of ws ≡ Continue v) where
   pub working_falls : size (under (working_of v) ws) < size ws
   working_falls = omega (arith, under_small (working_of v) ws, some_way v ws e)
 
   pub out_falls : size (under (out_of v) (beside (working_of v) ws)) < size ws
   out_falls = omega (arith, under_small (out_of v) (beside (working_of v) ws), beside_literals (working_of v) ws, some_way v ws e)
 
-pub rest_falls : (v : Part) (ws : List Way) → start_of ws ≡ At v → size (beside (out_of v) (beside (working_of v) ws)) < size ws
+pub rest_falls : (v : Part) (ws : List Way) → start_of ws ≡ Continue v → size (beside (out_of v) (beside (working_of v) ws)) < size ws
 rest_falls v [] e = let z : ◌≡◌ {A = ℕ} 0 1 = cc in absurd (omega arith)
 rest_falls v ([] ∷ ws) e = let z : ◌≡◌ {A = ℕ} 0 1 = cc in absurd (omega arith)
 rest_falls v ((l ∷ w) ∷ ws) e = by (has_empty ws) e
   where
-    by : (t : Bool) → choose t Anything (At l.part) ≡ At v → size (beside (out_of v) (beside (working_of v) ((l ∷ w) ∷ ws))) < size ((l ∷ w) ∷ ws)
+    by : (t : Bool) → choose t (Break Always) (Continue l.part) ≡ Continue v → size (beside (out_of v) (beside (working_of v) ((l ∷ w) ∷ ws))) < size ((l ∷ w) ∷ ws)
     by true f = let z : ◌≡◌ {A = ℕ} 0 1 = cc in absurd (omega arith)
     by false f = first_falls v l w ws (cc)

@@ -2,6 +2,8 @@
 -- Those that hold the part working are written first, then of the others those that hold it out, then the rest; the close joins the
 -- three operands.
 use Rattle.std.specs.Prelude.{ℕ, zero, suc, not, List, [], ◌∷◌, map, filter}
+use Rattle.std.specs.declared.ops.ControlFlow.{ControlFlow}
+use Rattle.std.specs.declared.ops.ControlFlow.TheVariants.{Continue, Break}
 use Rattle.rack.specs.declared.part.Literal.{Literal}
 use Rattle.rack.specs.declared.part.Part.{Part}
 use Rattle.rack.specs.declared.part.Sign.TheVariants as sign
@@ -13,8 +15,6 @@ use Rattle.definitions.specs.declared.operand.Operator.TheVariants.{Meet, Join}
 use Rattle.definitions.specs.Combine.{Writing, give, and_then, choose, combining}
 use Rattle.working.specs.Records.{lacking, has_empty, size}
 use Rattle.working.specs.Translation.{Rule}
-use Rattle.decomposition.specs.declared.split.Start.{Start}
-use Rattle.decomposition.specs.declared.split.Start.TheVariants.{Nothing, Anything, At}
 
 -- the literal of a part that asks that it works
 abbrev pub working_of : Part → Literal
@@ -32,11 +32,12 @@ under h ws = map (lacking h) (filter (holds h) ws)
 abbrev pub beside : Literal → List Way → List Way
 beside h ws = filter (λ w. not (holds h w)) ws
 
--- no way; or one with no literal; or else the part of the first literal of the first way
-abbrev pub start_of : List Way → Start
-start_of [] = Nothing
-start_of ([] ∷ ws) = Anything
-start_of ((l ∷ w) ∷ ws) = choose (has_empty ws) Anything (At l.part)
+-- the part of the first literal of the first way; or what the ways are worth at once: never where there is no way, always where one
+-- has no literal
+abbrev pub start_of : List Way → ControlFlow Operand Part
+start_of [] = Break Never
+start_of ([] ∷ ws) = Break Always
+start_of ((l ∷ w) ∷ ws) = choose (has_empty ws) (Break Always) (Continue l.part)
 
 -- a, b and c stand for the ways that hold v working, those that hold it out, and the rest
 abbrev pub closing : ℕ → Part → Operand → Operand → Operand → Writing
@@ -48,11 +49,10 @@ abbrev pub by_part : ℕ → (List Way → Writing) → Part → List Way → Li
 by_part limit sub v ws others =
     and_then (sub (under (working_of v) ws)) (λ a. and_then (sub (under (out_of v) others)) (λ b. and_then (sub (beside (out_of v) others)) (λ c. closing limit v a b c)))
 
--- no way is never, a way with no literal is always, and otherwise the part that comes first divides the ways
-abbrev pub by_start : ℕ → (List Way → Writing) → List Way → Start → Writing
-by_start limit sub ws Nothing = give Never
-by_start limit sub ws Anything = give Always
-by_start limit sub ws (At v) = by_part limit sub v ws (beside (working_of v) ws)
+-- ways that are worth a constant at once are that, and otherwise the part that comes first divides them
+abbrev pub by_start : ℕ → (List Way → Writing) → List Way → ControlFlow Operand Part → Writing
+by_start limit sub ws (Break x) = give x
+by_start limit sub ws (Continue v) = by_part limit sub v ws (beside (working_of v) ws)
 
 -- the same, at most so many levels deep; each kind is smaller than the whole, so that the size of the list is deep enough
 abbrev pub decompose_in : ℕ → ℕ → List Way → Writing

@@ -7,65 +7,51 @@ ghost use Rattle.decomposition.specs.Decomposition.{under, beside, start_of, clo
 use definitions::draft::{Draft, LimitReached};
 use definitions::operand::{Operand, Operator};
 use rack::part::{Literal, Part, Sign};
+use std::ops::ControlFlow;
 use working::record::WorkingRecord;
 use working::rule::Writer;
 
-/// What a list of ways begins with: there is no way, some way has no literal left, or the first literal is of this part.
-#[derive(Clone, Copy)]
-enum Start {
-    Nothing,
-    Anything,
-    At(Part),
-}
-
-/// What the ways begin with.
-fn begins(list: &[WorkingRecord]) -> Start
+/// The part of the first literal of the first way; or the constant that the ways are worth at once: always where a way has no literal
+/// left, and never where there is no way.
+fn begins(list: &[WorkingRecord]) -> ControlFlow<Operand, Part>
     ensures { result ≡ start_of (ways_in list.now) }
 {
-    for record in list {
-        if record.first().is_none() {
-            return Start::Anything;
-        }
+    if list.iter().any(|record| record.first().is_none()) {
+        return ControlFlow::Break(Operand::Always);
     }
-    if list.is_empty() {
-        return Start::Nothing;
-    }
-    match list[0].first() {
-        Some(literal) => Start::At(literal.part),
-        None => Start::Anything,
+    match list.first().and_then(WorkingRecord::first) {
+        Some(literal) => ControlFlow::Continue(literal.part),
+        None => ControlFlow::Break(Operand::Never),
     }
 }
 
-/// Copies the ways that hold the literal to the front of `room`, each without it, and answers how many they are.
-fn copy_under(list: &[WorkingRecord], literal: Literal, room: &mut [WorkingRecord]) -> usize
-    requires { literals (ways_in list.now) ≤ length room.old }
-    ensures fits { result ≤ length room.new }
-    ensures ways { ways_in (take result room.new) ≡ under literal (ways_in list.now) }
+/// Moves the ways that hold the literal to the front of `room`, each without it, and the others to the front of the list. Answers how
+/// many were moved there, and how many are left here.
+fn divide(
+    list: &mut [WorkingRecord],
+    literal: Literal,
+    room: &mut [WorkingRecord],
+) -> (usize, usize)
+    requires { literals (ways_in list.old) ≤ length room.old }
+    ensures held_fit { result.0 ≤ length room.new }
+    ensures held { ways_in (take result.0 room.new) ≡ under literal (ways_in list.old) }
+    ensures left_fit { result.1 ≤ length list.new }
+    ensures left { ways_in (take result.1 list.new) ≡ beside literal (ways_in list.old) }
 {
-    let mut n = 0;
-    for record in list {
-        if record.holds(literal) {
-            room[n] = record.without(literal);
-            n += 1;
-        }
-    }
-    n
-}
-
-/// Moves the ways that do not hold the literal to the front, and answers how many they are.
-fn keep_beside(list: &mut [WorkingRecord], literal: Literal) -> usize
-    ensures fits { result ≤ length list.new }
-    ensures ways { ways_in (take result list.new) ≡ beside literal (ways_in list.old) }
-{
-    let mut n = 0;
+    let mut held = 0;
+    let mut left = 0;
+    // Kept: the records are lent, without a heap, and a slice has no method that keeps some of its elements in place.
     for i in 0..list.len() {
         let record = list[i];
-        if !record.holds(literal) {
-            list[n] = record;
-            n += 1;
+        if record.holds(literal) {
+            room[held] = record.without(literal);
+            held += 1;
+        } else {
+            list[left] = record;
+            left += 1;
         }
     }
-    n
+    (held, left)
 }
 
 /// Meets each literal of the part with what its ways gave, joins the two, and joins that with what the rest gave.
@@ -95,9 +81,8 @@ fn decompose(
     ensures { Wrote draft.old draft.new result (decomposing draft.old.limit (ways_in list.old)) }
 {
     let part = match begins(list) {
-        Start::Nothing => return Ok(Operand::Never),
-        Start::Anything => return Ok(Operand::Always),
-        Start::At(part) => part,
+        ControlFlow::Continue(part) => part,
+        ControlFlow::Break(constant) => return Ok(constant),
     };
     let works = Literal {
         part,
@@ -107,16 +92,14 @@ fn decompose(
         part,
         sign: Sign::Out,
     };
-    let n = copy_under(list, works, room);
-    let (ways, spare) = room.split_at_mut(n);
+    let (held, left) = divide(list, works, room);
+    let (ways, spare) = room.split_at_mut(held);
     let working = decompose(ways, spare, draft)?;
-    let k = keep_beside(list, works);
-    let (others, _) = list.split_at_mut(k);
-    let m = copy_under(others, fails, room);
-    let (ways, spare) = room.split_at_mut(m);
+    let others = &mut list[..left];
+    let (held, left) = divide(others, fails, room);
+    let (ways, spare) = room.split_at_mut(held);
     let out = decompose(ways, spare, draft)?;
-    let j = keep_beside(others, fails);
-    let rest = decompose(&mut others[0..j], room, draft)?;
+    let rest = decompose(&mut others[..left], room, draft)?;
     close(part, working, out, rest, draft)
 }
 

@@ -1,20 +1,16 @@
--- The loop looks for a way with no literal; past it the first record decides.
-use Rattle.std.proofs.Common.{true, false, None, sym, refl, ◌∙◌}
-use Rattle.decomposition.proofs.Begun.{empty_from, empty_none, anything, nothing, some_record, at_first}
+-- A way with no literal left decides; otherwise the first record does.
+use Rattle.std.proofs.Common.{sym, ◌∙◌, rules, tests}
+use Rattle.std.proofs.lemmas.Iterator.{YieldsList-from_slice}
+use Rattle.std.proofs.lemmas.Iterator.Search.{any_from_yields_List}
+use Rattle.decomposition.proofs.Begun.{spent, any_spent, begins_always, begins_part}
 use Rattle.decomposition.proofs.split.begins.Goals as goal
 
-pub returns-then-is_none : goal.returns-then-is_none
-returns-then-is_none c = anything c.args.list.now (sym c.loop-record.invariant ∙ empty_from c.args.list.now c.loop-record.record-index _ c.first.result false c.loop-record-test.true c.first.ensures c.if-is_none.ensures)
-
-pub loop-record-preserved : goal.loop-record-preserved
-loop-record-preserved c = sym (empty_from c.args.list.now c.loop-record.record-index _ c.first.result true c.loop-record-test.true c.first.ensures c.if-is_none.ensures) ∙ c.loop-record.invariant
-
-pub returns-then-is_empty : goal.returns-then-is_empty
-returns-then-is_empty c = nothing c.args.list.now c.if-is_empty.ensures
+pub returns-then-any : goal.returns-then-any
+returns-then-any c =
+    let some = any_from_yields_List spent c.any.new.self _ c.any.result c.any.ensures.ran (YieldsList-from_slice c.args.list.now (cc)) (λ x b q k. search (rules, tests)) in
+    begins_always c.args.list.now (sym (some ∙ any_spent c.args.list.now) ∙ c.if-any.true)
 
 pub returns-in-Some : goal.returns-in-Some
 returns-in-Some c =
-    at_first c.args.list.now _ c.in-Some.literal c.if-is_empty.ensures (sym c.loop-record.invariant ∙ empty_none c.args.list.now c.loop-record.record-index c.loop-record-test.false) c.in-Some.ensures
-
-pub returns-in-None : goal.returns-in-None
-returns-in-None c = anything c.args.list.now (empty_from c.args.list.now 0 _ None false (some_record c.args.list.now c.if-is_empty.ensures) c.in-None.ensures refl)
+    let some = any_from_yields_List spent c.any.new.self _ c.any.result c.any.ensures.ran (YieldsList-from_slice c.args.list.now (cc)) (λ x b q k. search (rules, tests)) in
+    begins_part c.args.list.now _ (sym (some ∙ any_spent c.args.list.now) ∙ c.if-any.false) c.first.ensures.value c.and_then.ensures c.in-Some.is
