@@ -1,6 +1,6 @@
 -- The longest way is depth enough: more changes nothing, so the rule holds with no depth in sight.
 use Rattle.std.proofs.Common.{◌≡◌, ℕ, zero, suc, ◌≤◌, max, Bool, true, false, List, [], ◌∷◌, length, sym, refl, ap, ◌∙◌, arith}
-use borrow.Author.Tests.{clash}
+use Rattle.std.proofs.lemmas.Bool.{false≢true}
 use Rattle.rack.specs.declared.part.Literal.{Literal}
 use Rattle.rack.specs.Way.{Way}
 use Rattle.table.specs.Kept.{same_literal}
@@ -39,7 +39,7 @@ covers n (w ∷ ws) = let h = above (max n (length w)) ws in (omega arith, cover
 
 none_left : (ws : List Way) → Within 0 ws → has_empty ws ≡ false → ws ≡ []
 none_left [] i e = refl
-none_left ([] ∷ ws) i e = absurd (clash (sym e))
+none_left ([] ∷ ws) i e = absurd (false≢true (sym e))
 none_left ((h ∷ w) ∷ ws) i e = absurd (omega (arith, i.0))
 
 module _ (limit : ℕ) where

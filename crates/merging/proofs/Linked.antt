@@ -1,6 +1,6 @@
 -- Merging the records that the ways were entered in is merging the ways.
-use Rattle.std.proofs.Common.{◌≡◌, ℕ, zero, suc, ◌+◌, ◌<◌, ◌≤◌, Bool, true, false, ◌&&◌, ◌||◌, eqb, List, [], ◌∷◌, ◌++◌, length, get_or, is_some, Some, None, Option, refl, ap, ◌∙◌, arith, eqb-true}
-use borrow.Author.Tests.{clash}
+use Rattle.std.proofs.Common.{◌≡◌, ℕ, zero, suc, ◌+◌, ◌<◌, ◌≤◌, Bool, true, false, ◌||◌, eqb, List, [], ◌∷◌, ◌++◌, length, get_or, is_some, Some, None, Option, refl, ap, ◌∙◌, arith, eqb-true}
+use Rattle.std.proofs.lemmas.Bool.{false≢true}
 use Rattle.rack.specs.declared.part.Literal.{Literal}
 use Rattle.rack.specs.Way.{Way}
 use Rattle.table.specs.Kept.{same_literal}
@@ -13,7 +13,7 @@ use Rattle.working.specs.declared.record.WorkingRecord.TheVariants as record_of
 use Rattle.working.specs.Records.{has_empty, operand_of}
 use Rattle.merging.specs.Merging.{join_heads, merge_in}
 use Rattle.merging.specs.Merging as ways
-use Rattle.merging.specs.Trie.{no_letter, branch_at, end_at, node_from, ended, branch_of, turn_by, join_at, merge_at, entering_all}
+use Rattle.merging.specs.Trie.{end_at, node_from, ended, branch_of, turn_by, join_at, merge_at, entering_all}
 use Rattle.merging.proofs.Labels.{Label, Label.lit, Label.end, Label.other, same_label, Word, rests_of, is_in, heads_after, heads, link, view, whole, wholes, views, child_lits, rests_at, rests_push, none, Fits}
 use Rattle.merging.proofs.Steps.{in_last, in_after}
 use Rattle.merging.proofs.Filling.{length_views, views_index, filled}
@@ -115,7 +115,7 @@ ended_is n m (record_of.Branch p l ∷ R) = go (ended_is (n + 1) m R) (eqb p.0 m
     go a false = a
 ended_is n m (record_of.End q ∷ R) = go (ended_is (n + 1) m R) (eqb q.0 m)
   where
-    go : is_some (node_from (n + 1) R (end_at m)) ≡ is_in end (child_lits m (views R)) → (t : Bool) → is_some (choose (t && true) (Some n) (node_from (n + 1) R (end_at m))) ≡ is_in end (choose t (end ∷ child_lits m (views R)) (child_lits m (views R)))
+    go : is_some (node_from (n + 1) R (end_at m)) ≡ is_in end (child_lits m (views R)) → (t : Bool) → is_some (choose t (Some n) (node_from (n + 1) R (end_at m))) ≡ is_in end (choose t (end ∷ child_lits m (views R)) (child_lits m (views R)))
     go a true = refl
     go a false = a
 
@@ -150,17 +150,17 @@ lit_or d (Some l) = l
 lit_or d None = d
 
 branch_view : (m : ℕ) (l : Literal) (r : WorkingRecord) → branch_of m r ≡ Some l → view r ≡ link m (lit l)
-branch_view m l (record_of.Way left) e = absurd (clash (ap is_some e))
+branch_view m l (record_of.Way left) e = absurd (false≢true (ap is_some e))
 branch_view m l (record_of.Branch p x) e = go (eqb p.0 m) refl e
   where
     go : (t : Bool) → eqb p.0 m ≡ t → choose t (Some x) None ≡ Some l → link p.0 (lit x) ≡ link m (lit l)
     go true a b = (λ k. link (eqb-true p.0 m a k) (lit (ap (lit_or x) b k)))
-    go false a b = absurd (clash (ap is_some b))
-branch_view m l (record_of.End n) e = absurd (clash (ap is_some e))
+    go false a b = absurd (false≢true (ap is_some b))
+branch_view m l (record_of.End n) e = absurd (false≢true (ap is_some e))
 
 -- what stands for a record past the end
 abbrev blank : WorkingRecord
-blank = branch_at 0 no_letter
+blank = end_at 0
 
 join_same : (limit : ℕ) (sub : ℕ → Writing) (sub' : List Way → Writing) (W : List Way) (m place : ℕ) (sofar : Operand) (S : List WorkingRecord) → ((i : ℕ) (l : Literal) → i < length S → branch_of m (get_or S i blank) ≡ Some l → sub (place + i + 1) ≡ sub' (ways.rests_of l W)) → join_at limit sub m place sofar S ≡ join_heads limit sub' W sofar (branch_lits m S)
 join_same limit sub sub' W m place sofar [] each = refl

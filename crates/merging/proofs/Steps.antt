@@ -1,6 +1,6 @@
 -- One label more of the last way keeps the links fitting.
 use Rattle.std.proofs.Common.{◌≡◌, ℕ, zero, suc, ◌+◌, ◌<◌, ◌≤◌, Bool, true, false, ◌||◌, eqb, ◌⊎◌, List, [], ◌∷◌, ◌++◌, length, get_or, sym, refl, ap, ◌∙◌, inl, inr, arith, eq-eqb, ne_eqb, eqb-true}
-use borrow.Author.Tests.{eqb-false, clash}
+use Rattle.std.proofs.lemmas.Bool.{false≢true, eqb-false}
 use Rattle.std.proofs.lemmas.List.{length_push, get_or_append_left, get_or_at, same_from_push}
 use Rattle.definitions.specs.Combine.{choose}
 use Rattle.merging.proofs.Labels.{Label, same_label, label_eq, label_true, label_ne, Word, rests_of, is_in, heads_after, heads, Link, none, child_lits, rests_at, rests_push, Fits}
@@ -75,7 +75,7 @@ heads_same gs (q ∷ p) (h ∷ v) l ne = go (heads_same gs p v l) (same_label h 
 
 -- a literal that is no head has no rests
 in_more : (h g : Label) (gs : List Label) → is_in h gs ≡ true → is_in h (gs ++ g ∷ []) ≡ true
-in_more h g [] e = absurd (clash e)
+in_more h g [] e = absurd (false≢true e)
 in_more h g (x ∷ gs) e = go (in_more h g gs) (same_label x h) e
   where
     go : (is_in h gs ≡ true → is_in h (gs ++ g ∷ []) ≡ true) → (t : Bool) → (t || is_in h gs) ≡ true → (t || is_in h (gs ++ g ∷ [])) ≡ true
@@ -105,8 +105,8 @@ no_rests h gs ([] ∷ ws) e = no_rests h gs ws e
 no_rests h gs ((g ∷ v) ∷ ws) e = go (no_rests h gs ws) (no_rests h (gs ++ g ∷ []) ws) (is_in g gs) refl (same_label g h) refl e
   where
     go : (is_in h (heads_after gs ws) ≡ false → rests_of h ws ≡ []) → (is_in h (heads_after (gs ++ g ∷ []) ws) ≡ false → rests_of h ws ≡ []) → (t : Bool) → is_in g gs ≡ t → (u : Bool) → same_label g h ≡ u → is_in h (by_new t gs (gs ++ g ∷ []) ws) ≡ false → by_head u v (rests_of h ws) ≡ []
-    go a b true i true same e' = absurd (clash (sym e' ∙ in_after h gs ws (ap (λ x. is_in x gs) (sym (label_true g h same)) ∙ i)))
-    go a b false i true same e' = absurd (clash (sym e' ∙ in_after h (gs ++ g ∷ []) ws (ap (λ x. is_in x (gs ++ g ∷ [])) (sym (label_true g h same)) ∙ in_last g gs)))
+    go a b true i true same e' = absurd (false≢true (sym e' ∙ in_after h gs ws (ap (λ x. is_in x gs) (sym (label_true g h same)) ∙ i)))
+    go a b false i true same e' = absurd (false≢true (sym e' ∙ in_after h (gs ++ g ∷ []) ws (ap (λ x. is_in x (gs ++ g ∷ [])) (sym (label_true g h same)) ∙ in_last g gs)))
     go a b true i false ne e' = a e'
     go a b false i false ne e' = b e'
 

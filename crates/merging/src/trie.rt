@@ -2,7 +2,7 @@ ghost use Rattle.std.specs.Prelude.{◌≡◌, ◌+◌, ◌<◌, ◌≤◌, true
 ghost use Rattle.definitions.specs.Writing.{Wrote};
 ghost use Rattle.working.specs.Records.{left_in, way_in, ways_in, size};
 ghost use Rattle.merging.specs.Merging.{merging};
-ghost use Rattle.merging.specs.Trie.{is_mark, branch_of, ended, reached, reaching, entering, entering_all, merge_at};
+ghost use Rattle.merging.specs.Trie.{is_mark, branch_of, ended, reaching, entering, entering_all, merge_at};
 
 use definitions::draft::{Draft, LimitReached};
 use definitions::operand::{Operand, Operator};
@@ -55,7 +55,8 @@ impl Trie<'_> {
         requires mark { is_mark mark ≡ true }
         requires room { 0 < spare self.old }
         ensures room { spare self.old ≤ spare self.new + 1 }
-        ensures value { reached result.0 (marks self.new) ≡ reaching mark (marks self.old) }
+        ensures node { result.0 ≡ (reaching mark (marks self.old)).node }
+        ensures marks { marks self.new ≡ (reaching mark (marks self.old)).records }
     {
         if let Some(place) = find_first(self.marks(), &mark) {
             return Node(place + 1);
