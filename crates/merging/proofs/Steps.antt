@@ -3,7 +3,7 @@ use Rattle.std.proofs.Common.{◌≡◌, ℕ, zero, suc, ◌+◌, ◌<◌, ◌�
 use Rattle.std.proofs.lemmas.Bool.{false≢true, eqb-false}
 use Rattle.std.proofs.lemmas.List.{length_push, get_or_append_left, get_or_at, same_from_push}
 use Rattle.definitions.specs.Combine.{choose}
-use Rattle.merging.proofs.Labels.{Label, same_label, label_eq, label_true, label_ne, Word, rests_of, is_in, heads_after, heads, Link, none, child_lits, rests_at, rests_push, Fits}
+use Rattle.merging.proofs.Labels.{Label, label_eq, label_true, label_ne, Word, rests_of, is_in, heads_after, heads, Link, none, child_lits, rests_at, rests_push, Fits}
 
 abbrev by_head : Bool → Word → List Word → List Word
 by_head t v ws = choose t (v ∷ ws) ws
@@ -19,20 +19,12 @@ by_child t l ls = choose t (l ∷ ls) ls
 heads_append : (gs : List Label) (ws us : List Word) → heads_after gs (ws ++ us) ≡ heads_after (heads_after gs ws) us
 heads_append gs [] us = refl
 heads_append gs ([] ∷ ws) us = heads_append gs ws us
-heads_append gs ((h ∷ v) ∷ ws) us = go (heads_append gs ws us) (heads_append (gs ++ h ∷ []) ws us) (is_in h gs)
-  where
-    go : heads_after gs (ws ++ us) ≡ heads_after (heads_after gs ws) us → heads_after (gs ++ h ∷ []) (ws ++ us) ≡ heads_after (heads_after (gs ++ h ∷ []) ws) us → (t : Bool) → by_new t gs (gs ++ h ∷ []) (ws ++ us) ≡ heads_after (by_new t gs (gs ++ h ∷ []) ws) us
-    go a b true = a
-    go a b false = b
+heads_append gs ((h ∷ v) ∷ ws) us = grind (arith, heads_append gs ws us, heads_append (gs ++ h ∷ []) ws us)
 
 rests_append : (h : Label) (ws us : List Word) → rests_of h (ws ++ us) ≡ rests_of h ws ++ rests_of h us
 rests_append h [] us = refl
 rests_append h ([] ∷ ws) us = rests_append h ws us
-rests_append h ((g ∷ v) ∷ ws) us = go (rests_append h ws us) (same_label g h)
-  where
-    go : rests_of h (ws ++ us) ≡ rests_of h ws ++ rests_of h us → (t : Bool) → by_head t v (rests_of h (ws ++ us)) ≡ by_head t v (rests_of h ws) ++ rests_of h us
-    go a true = ap (λ l. v ∷ l) a
-    go a false = a
+rests_append h ((g ∷ v) ∷ ws) us = grind (arith, rests_append h ws us)
 
 at_append : (p : List Label) (ws us : List Word) → rests_at p (ws ++ us) ≡ rests_at p ws ++ rests_at p us
 at_append [] ws us = refl
@@ -62,67 +54,37 @@ at_longer (h ∷ v) l = ap (λ t. rests_at v (by_head t (v ++ l ∷ []) [])) (la
 heads_same : (gs p : List Label) (v : Word) (l : Label) → (p ≡ v → ⊥) → heads_after gs (rests_at p ((v ++ l ∷ []) ∷ [])) ≡ heads_after gs (rests_at p (v ∷ []))
 heads_same gs [] [] l ne = absurd (ne refl)
 heads_same gs [] (h ∷ v) l ne = refl
-heads_same gs (q ∷ p) [] l ne = go (same_label l q) ∙ sym (ap (heads_after gs) (at_none p))
-  where
-    go : (t : Bool) → heads_after gs (rests_at p (by_head t [] [])) ≡ gs
-    go true = at_empty gs p
-    go false = ap (heads_after gs) (at_none p)
-heads_same gs (q ∷ p) (h ∷ v) l ne = go (heads_same gs p v l) (same_label h q) refl
-  where
-    go : ((p ≡ v → ⊥) → heads_after gs (rests_at p ((v ++ l ∷ []) ∷ [])) ≡ heads_after gs (rests_at p (v ∷ []))) → (t : Bool) → same_label h q ≡ t → heads_after gs (rests_at p (by_head t (v ++ l ∷ []) [])) ≡ heads_after gs (rests_at p (by_head t v []))
-    go later true e = later (λ same. ne (λ k. sym (label_true h q e) k ∷ same k))
-    go later false e = refl
+heads_same gs (q ∷ p) [] l ne = grind (arith, at_empty gs p, at_none p)
+heads_same gs (q ∷ p) (h ∷ v) l ne = grind (arith, heads_same gs p v l, label_true h q)
 
 -- a literal that is no head has no rests
 in_more : (h g : Label) (gs : List Label) → is_in h gs ≡ true → is_in h (gs ++ g ∷ []) ≡ true
 in_more h g [] e = absurd (false≢true e)
-in_more h g (x ∷ gs) e = go (in_more h g gs) (same_label x h) e
-  where
-    go : (is_in h gs ≡ true → is_in h (gs ++ g ∷ []) ≡ true) → (t : Bool) → (t || is_in h gs) ≡ true → (t || is_in h (gs ++ g ∷ [])) ≡ true
-    go later true e' = refl
-    go later false e' = later e'
+in_more h g (x ∷ gs) e = grind (arith, in_more h g gs)
 
 pub in_last : (h : Label) (gs : List Label) → is_in h (gs ++ h ∷ []) ≡ true
 in_last h [] = ap (λ t. t || false) (label_eq h h refl)
-in_last h (x ∷ gs) = go (in_last h gs) (same_label x h)
-  where
-    go : is_in h (gs ++ h ∷ []) ≡ true → (t : Bool) → (t || is_in h (gs ++ h ∷ [])) ≡ true
-    go later true = refl
-    go later false = later
+in_last h (x ∷ gs) = grind (arith, in_last h gs)
 
 pub in_after : (h : Label) (gs : List Label) (ws : List Word) → is_in h gs ≡ true → is_in h (heads_after gs ws) ≡ true
 in_after h gs [] e = e
 in_after h gs ([] ∷ ws) e = in_after h gs ws e
-in_after h gs ((g ∷ v) ∷ ws) e = go (in_after h gs ws e) (in_after h (gs ++ g ∷ []) ws (in_more h g gs e)) (is_in g gs)
-  where
-    go : is_in h (heads_after gs ws) ≡ true → is_in h (heads_after (gs ++ g ∷ []) ws) ≡ true → (t : Bool) → is_in h (by_new t gs (gs ++ g ∷ []) ws) ≡ true
-    go a b true = a
-    go a b false = b
+in_after h gs ((g ∷ v) ∷ ws) e = grind (arith, in_after h gs ws e, in_after h (gs ++ g ∷ []) ws (in_more h g gs e))
 
 no_rests : (h : Label) (gs : List Label) (ws : List Word) → is_in h (heads_after gs ws) ≡ false → rests_of h ws ≡ []
 no_rests h gs [] e = refl
 no_rests h gs ([] ∷ ws) e = no_rests h gs ws e
-no_rests h gs ((g ∷ v) ∷ ws) e = go (no_rests h gs ws) (no_rests h (gs ++ g ∷ []) ws) (is_in g gs) refl (same_label g h) refl e
-  where
-    go : (is_in h (heads_after gs ws) ≡ false → rests_of h ws ≡ []) → (is_in h (heads_after (gs ++ g ∷ []) ws) ≡ false → rests_of h ws ≡ []) → (t : Bool) → is_in g gs ≡ t → (u : Bool) → same_label g h ≡ u → is_in h (by_new t gs (gs ++ g ∷ []) ws) ≡ false → by_head u v (rests_of h ws) ≡ []
-    go a b true i true same e' = absurd (false≢true (sym e' ∙ in_after h gs ws (ap (λ x. is_in x gs) (sym (label_true g h same)) ∙ i)))
-    go a b false i true same e' = absurd (false≢true (sym e' ∙ in_after h (gs ++ g ∷ []) ws (ap (λ x. is_in x (gs ++ g ∷ [])) (sym (label_true g h same)) ∙ in_last g gs)))
-    go a b true i false ne e' = a e'
-    go a b false i false ne e' = b e'
+no_rests h gs ((g ∷ v) ∷ ws) e = grind (arith, no_rests h gs ws, no_rests h (gs ++ g ∷ []) ws, label_true g h, in_last g gs, in_after h gs ws, in_after h (gs ++ g ∷ []) ws)
 
 -- the children of a node
 
 kids_push_same : (m : ℕ) (l : Label) (R : List Link) → child_lits m (R ++ record { parent = m; label = l } ∷ []) ≡ child_lits m R ++ l ∷ []
 kids_push_same m l [] = ap (λ t. by_child t l []) (eq-eqb m m refl)
-kids_push_same m l (b ∷ R) = go (kids_push_same m l R) (eqb b.parent m)
-  where
-    go : child_lits m (R ++ record { parent = m; label = l } ∷ []) ≡ child_lits m R ++ l ∷ [] → (t : Bool) → by_child t b.label (child_lits m (R ++ record { parent = m; label = l } ∷ [])) ≡ by_child t b.label (child_lits m R) ++ l ∷ []
-    go a true = ap (λ x. b.label ∷ x) a
-    go a false = a
+kids_push_same m l (b ∷ R) = grind (arith, kids_push_same m l R)
 
 kids_push_other : (k m : ℕ) (l : Label) (R : List Link) → (m ≡ k → ⊥) → child_lits k (R ++ record { parent = m; label = l } ∷ []) ≡ child_lits k R
 kids_push_other k m l [] ne = ap (λ t. by_child t l []) (ne_eqb m k ne)
-kids_push_other k m l (b ∷ R) ne = ap (by_child (eqb b.parent k) b.label) (kids_push_other k m l R ne)
+kids_push_other k m l (b ∷ R) ne = grind (arith, kids_push_other k m l R ne)
 
 kids_none : (k : ℕ) (R : List Link) → ((i : ℕ) → i < length R → (get_or R i none).parent < k) → child_lits k R ≡ []
 kids_none k [] low = refl
@@ -132,24 +94,12 @@ kids_none k (b ∷ R) low =
 
 in_kids : (m : ℕ) (l : Label) (R : List Link) (i : ℕ) → i < length R → (get_or R i none).parent ≡ m → (get_or R i none).label ≡ l → is_in l (child_lits m R) ≡ true
 in_kids m l [] i h p q = absurd (omega arith)
-in_kids m l (b ∷ R) zero h p q = ap (λ t. is_in l (by_child t b.label (child_lits m R))) (eq-eqb b.parent m p) ∙ ap (λ t. t || is_in l (child_lits m R)) (label_eq b.label l q)
-in_kids m l (b ∷ R) (suc i) h p q = go (in_kids m l R i (omega arith) p q) (eqb b.parent m) (same_label b.label l)
-  where
-    go : is_in l (child_lits m R) ≡ true → (t u : Bool) → is_in l (by_child t b.label (child_lits m R)) ≡ true
-    go a false u = a
-    go a true u = by_in (same_label b.label l)
-      where
-        by_in : (s : Bool) → (s || is_in l (child_lits m R)) ≡ true
-        by_in true = refl
-        by_in false = a
+in_kids m l (b ∷ R) zero h p q = grind (arith, eq-eqb b.parent m p, label_eq b.label l q)
+in_kids m l (b ∷ R) (suc i) h p q = grind (arith, in_kids m l R i (omega arith) p q)
 
 not_in_kids : (m : ℕ) (l : Label) (R : List Link) → ((i : ℕ) → i < length R → (get_or R i none).parent ≡ m → (get_or R i none).label ≡ l → ⊥) → is_in l (child_lits m R) ≡ false
 not_in_kids m l [] h = refl
-not_in_kids m l (b ∷ R) h = go (not_in_kids m l R (λ i j. h (suc i) (omega arith))) (eqb b.parent m) refl
-  where
-    go : is_in l (child_lits m R) ≡ false → (t : Bool) → eqb b.parent m ≡ t → is_in l (by_child t b.label (child_lits m R)) ≡ false
-    go a false e = a
-    go a true e = ap (λ t. t || is_in l (child_lits m R)) (label_ne b.label l (h 0 (omega arith) (eqb-true b.parent m e))) ∙ a
+not_in_kids m l (b ∷ R) h = grind (arith, not_in_kids m l R (λ i j. h (suc i) (omega arith)), h 0 (omega arith), eqb-true b.parent m, label_ne b.label l)
 
 -- the heads at v once the last way goes on by l
 heads_at : (ws : List Word) (v : Word) (l : Label) → heads (rests_at v (ws ++ (v ++ l ∷ []) ∷ [])) ≡ heads_after (heads (rests_at v (ws ++ v ∷ []))) ((l ∷ []) ∷ [])
