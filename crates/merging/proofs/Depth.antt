@@ -1,6 +1,6 @@
 -- The longest way is depth enough: more changes nothing, so the rule holds with no depth in sight.
-use Rattle.std.proofs.Common.{◌≡◌, ℕ, zero, suc, ◌≤◌, max, Bool, true, false, List, [], ◌∷◌, length, sym, refl, ap, ◌∙◌, arith}
-use borrow.Author.Tests.{clash}
+use Rattle.std.proofs.Common.{◌≡◌, ℕ, zero, suc, ◌≤◌, max, true, false, List, [], ◌∷◌, length, sym, refl, ap, ◌∙◌, arith}
+use Rattle.std.proofs.lemmas.Bool.{false≢true}
 use Rattle.rack.specs.declared.part.Literal.{Literal}
 use Rattle.rack.specs.Way.{Way}
 use Rattle.table.specs.Kept.{same_literal}
@@ -23,11 +23,7 @@ wider g h (w ∷ ws) le i = (omega (arith, i.0), wider g h ws le i.1)
 rests_within : (h : ℕ) (x : Literal) (ws : List Way) → Within (suc h) ws → Within h (rests_of x ws)
 rests_within h x [] i = tt
 rests_within h x ([] ∷ ws) i = rests_within h x ws i.1
-rests_within h x ((g ∷ w) ∷ ws) i = go (rests_within h x ws i.1) (same_literal g x)
-  where
-    go : Within h (rests_of x ws) → (t : Bool) → Within h (choose t (w ∷ rests_of x ws) (rests_of x ws))
-    go a true = (omega (arith, i.0), a)
-    go a false = a
+rests_within h x ((g ∷ w) ∷ ws) i = elim (same_literal g x) as (λ t. Within h (choose t (w ∷ rests_of x ws) (rests_of x ws))) [ true ↦ (omega (arith, i.0), rests_within h x ws i.1) | false ↦ rests_within h x ws i.1 ]
 
 above : (n : ℕ) (ws : List Way) → n ≤ longer n ws
 above n [] = omega arith
@@ -39,7 +35,7 @@ covers n (w ∷ ws) = let h = above (max n (length w)) ws in (omega arith, cover
 
 none_left : (ws : List Way) → Within 0 ws → has_empty ws ≡ false → ws ≡ []
 none_left [] i e = refl
-none_left ([] ∷ ws) i e = absurd (clash (sym e))
+none_left ([] ∷ ws) i e = absurd (false≢true (sym e))
 none_left ((h ∷ w) ∷ ws) i e = absurd (omega (arith, i.0))
 
 module _ (limit : ℕ) where
@@ -49,11 +45,7 @@ module _ (limit : ℕ) where
       (λ k. and_then (each h k) (λ b. and_then (combining limit Meet (operand_of h) b) (λ m. and_then (combining limit Join sofar m) (λ j. joins_alike sub sub' ws hs each j k))))
 
   bottom : (b : ℕ) (ws : List Way) → Within 0 ws → merge_in limit 0 ws ≡ merge_in limit (suc b) ws
-  bottom b ws i = go (has_empty ws) refl
-    where
-      go : (t : Bool) → has_empty ws ≡ t → choose t (give Always) (give Never) ≡ choose t (give Always) (join_heads limit (merge_in limit b) ws Never (heads ws))
-      go true e = refl
-      go false e = sym (ap (λ us. join_heads limit (merge_in limit b) us Never (heads us)) (none_left ws i e))
+  bottom b ws i = grind (arith, none_left ws i)
 
   enough : (a b : ℕ) (ws : List Way) → Within a ws → Within b ws → merge_in limit a ws ≡ merge_in limit b ws
   enough zero zero ws i j = refl

@@ -4,8 +4,8 @@ use Rattle.std.proofs.lemmas.List.{length_push}
 use Rattle.rack.specs.Way.{Way}
 use Rattle.rack.specs.First.{FirstAt, Nowhere}
 use Rattle.working.specs.declared.record.WorkingRecord.{WorkingRecord}
-use Rattle.merging.specs.Trie.{is_mark, branch_at, end_at, reached, or_put, reaching, entering, entering_all}
-use Rattle.merging.proofs.Marks.{found, missing, look}
+use Rattle.merging.specs.Trie.{is_mark, branch_at, end_at, reaching, entering, entering_all}
+use Rattle.merging.proofs.Marks.{reaching_found, reaching_new, look}
 use Rattle.merging.proofs.Labels.{Label, Label.lit, Label.end, Word, Link, link, view, view_same, whole, wholes, views, none, Fits, Filled}
 use Rattle.merging.proofs.Steps.{way_starts, way_follows, way_grows, newest, paths_with}
 
@@ -32,13 +32,12 @@ placed R r m = go (look r m R)
     go : ((i : ℕ) × FirstAt R r i) ⊎ Nowhere R r → Placed (views R) (view r) (views (reaching r R).records) (reaching r R).node
     go (inl f) =
         let i = f.0 in
-        let e : reaching r R ≡ reached (1 + i) R = ap (λ o. or_put o r R) (found r m R 1 i f.1) in
-        let at : 1 + i ≡ i + 1 = omega arith in
+        let e = reaching_found r m R i f.1 in
         let long = length_views R in
         let inside : i < length R = f.1.inside in
-        inl (ap (λ x. views x.records) e, (i, ap (λ x. x.node) e ∙ at, omega arith, views_index R i r inside ∙ ap view f.1.here))
+        inl (ap (λ x. views x.records) e, (i, ap (λ x. x.node) e, omega arith, views_index R i r inside ∙ ap view f.1.here))
     go (inr new) =
-        let e : reaching r R ≡ reached (length R + 1) (R ++ r ∷ []) = ap (λ o. or_put o r R) (missing r m R 1 new) in
+        let e = reaching_new r m R new in
         let long = length_views R in
         inr (
           ap (λ x. views x.records) e ∙ views_push R r,

@@ -1,8 +1,8 @@
 -- The records as links. The end of a way is one label more, so that a way with its end is a list of labels, and an end mark is a
 -- branch as any other.
-use Rattle.std.proofs.Common.{◌≡◌, ℕ, zero, suc, ◌+◌, ◌<◌, ◌≤◌, Bool, true, false, ◌&&◌, eqb, List, [], ◌∷◌, ◌++◌, length, get_or, Decides, sym, refl, ap, ◌∙◌, arith}
-use borrow.Author.Tests.{clash}
-use Rattle.std.proofs.lemmas.Bool.Decides.{Decides-and, Decides-eqb, Decides-like}
+use Rattle.std.proofs.Common.{◌≡◌, ℕ, ◌+◌, ◌<◌, ◌≤◌, Bool, true, false, eqb, List, [], ◌∷◌, ◌++◌, length, get_or, Decides, sym, refl, ap, ◌∙◌, arith}
+use Rattle.std.proofs.lemmas.Bool.{false≢true}
+use Rattle.std.proofs.lemmas.Bool.Decides.{Decides-like}
 use Rattle.rack.specs.declared.part.Literal.{Literal}
 use Rattle.rack.specs.Way.{Way}
 use Rattle.table.specs.Kept.{same_literal}
@@ -10,7 +10,7 @@ use Rattle.table.proofs.KeptWays.{decides_literal}
 use Rattle.definitions.specs.Combine.{choose}
 use Rattle.working.specs.declared.record.WorkingRecord.{WorkingRecord}
 use Rattle.working.specs.declared.record.WorkingRecord.TheVariants as record_of
-use Rattle.merging.specs.Trie.{is_mark, no_letter, branch_at, end_at}
+use Rattle.merging.specs.Trie.{is_mark, branch_at, end_at}
 use Rattle.merging.specs.Merging as ways
 
 -- a literal, or the end, or what is of no node
@@ -19,33 +19,22 @@ pub data Label : Type 0 where
   end : Label
   other : Label
 
-abbrev label_sort : Label → ℕ
-label_sort (lit l) = 0
-label_sort end = 1
-label_sort other = 2
-
-abbrev label_letter : Label → Literal
-label_letter (lit l) = l
-label_letter end = no_letter
-label_letter other = no_letter
-
 abbrev pub same_label : Label → Label → Bool
-same_label a b = eqb (label_sort a) (label_sort b) && same_literal (label_letter a) (label_letter b)
-
-abbrev label_of : ℕ → Literal → Label
-label_of zero l = lit l
-label_of (suc zero) l = end
-label_of (suc (suc k)) l = other
-
-label_is : (a : Label) → label_of (label_sort a) (label_letter a) ≡ a
-label_is (lit l) = refl
-label_is end = refl
-label_is other = refl
+same_label (lit l) (lit k) = same_literal l k
+same_label end end = true
+same_label other other = true
+same_label _ _ = false
 
 decides_label : (a b : Label) → Decides (same_label a b) (a ≡ b)
-decides_label a b =
-    Decides-like _ (λ h. sym (label_is a) ∙ (λ i. label_of (h.0 i) (h.1 i)) ∙ label_is b) (λ e. (ap label_sort e, ap label_letter e))
-    (Decides-and _ _ (Decides-eqb (label_sort a) (label_sort b)) (decides_literal (label_letter a) (label_letter b)))
+decides_label (lit l) (lit k) = Decides-like _ (ap lit) (λ e. cc) (decides_literal l k)
+decides_label (lit l) end = (λ e. absurd (false≢true e), λ e. absurd (cc))
+decides_label (lit l) other = (λ e. absurd (false≢true e), λ e. absurd (cc))
+decides_label end (lit k) = (λ e. absurd (false≢true e), λ e. absurd (cc))
+decides_label end end = (λ e. refl, λ e. refl)
+decides_label end other = (λ e. absurd (false≢true e), λ e. absurd (cc))
+decides_label other (lit k) = (λ e. absurd (false≢true e), λ e. absurd (cc))
+decides_label other end = (λ e. absurd (false≢true e), λ e. absurd (cc))
+decides_label other other = (λ e. refl, λ e. refl)
 
 pub label_eq : (a b : Label) → a ≡ b → same_label a b ≡ true
 label_eq a b e = (decides_label a b).1 e
@@ -91,7 +80,7 @@ unview q p end = end_at p
 unview q p other = q
 
 unview_is : (r q : WorkingRecord) → is_mark r ≡ true → unview q (view r).parent (view r).label ≡ r
-unview_is (record_of.Way left) q m = absurd (clash m)
+unview_is (record_of.Way left) q m = absurd (false≢true m)
 unview_is (record_of.Branch p l) q m = refl
 unview_is (record_of.End n) q m = refl
 

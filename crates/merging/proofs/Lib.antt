@@ -1,5 +1,4 @@
 pub mod Marks
-pub mod Enters
 pub mod Labels
 pub mod Steps
 pub mod Filling

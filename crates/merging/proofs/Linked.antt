@@ -1,6 +1,5 @@
 -- Merging the records that the ways were entered in is merging the ways.
-use Rattle.std.proofs.Common.{◌≡◌, ℕ, zero, suc, ◌+◌, ◌<◌, ◌≤◌, Bool, true, false, ◌&&◌, ◌||◌, eqb, List, [], ◌∷◌, ◌++◌, length, get_or, is_some, Some, None, Option, refl, ap, ◌∙◌, arith, eqb-true}
-use borrow.Author.Tests.{clash}
+use Rattle.std.proofs.Common.{◌≡◌, ℕ, zero, suc, ◌+◌, ◌<◌, ◌≤◌, Bool, ◌||◌, List, [], ◌∷◌, ◌++◌, length, get_or, is_some, Some, None, Option, refl, ap, ◌∙◌, arith, eqb-true}
 use Rattle.rack.specs.declared.part.Literal.{Literal}
 use Rattle.rack.specs.Way.{Way}
 use Rattle.table.specs.Kept.{same_literal}
@@ -13,8 +12,8 @@ use Rattle.working.specs.declared.record.WorkingRecord.TheVariants as record_of
 use Rattle.working.specs.Records.{has_empty, operand_of}
 use Rattle.merging.specs.Merging.{join_heads, merge_in}
 use Rattle.merging.specs.Merging as ways
-use Rattle.merging.specs.Trie.{no_letter, branch_at, end_at, node_from, ended, branch_of, turn_by, join_at, merge_at, entering_all}
-use Rattle.merging.proofs.Labels.{Label, Label.lit, Label.end, Label.other, same_label, Word, rests_of, is_in, heads_after, heads, link, view, whole, wholes, views, child_lits, rests_at, rests_push, none, Fits}
+use Rattle.merging.specs.Trie.{end_at, node_from, ended, branch_of, turn_by, join_at, merge_at, entering_all}
+use Rattle.merging.proofs.Labels.{Label, Label.lit, Label.end, Label.other, same_label, Word, rests_of, is_in, heads_after, heads, link, view, wholes, views, child_lits, rests_at, rests_push, none, Fits}
 use Rattle.merging.proofs.Steps.{in_last, in_after}
 use Rattle.merging.proofs.Filling.{length_views, views_index, filled}
 
@@ -23,11 +22,7 @@ use Rattle.merging.proofs.Filling.{length_views, views_index, filled}
 rests_whole : (h : Literal) (W : List Way) → rests_of (lit h) (wholes W) ≡ wholes (ways.rests_of h W)
 rests_whole h [] = refl
 rests_whole h ([] ∷ W) = rests_whole h W
-rests_whole h ((g ∷ w) ∷ W) = go (rests_whole h W) (same_literal g h)
-  where
-    go : rests_of (lit h) (wholes W) ≡ wholes (ways.rests_of h W) → (t : Bool) → choose t (whole w ∷ rests_of (lit h) (wholes W)) (rests_of (lit h) (wholes W)) ≡ wholes (choose t (w ∷ ways.rests_of h W) (ways.rests_of h W))
-    go a true = ap (λ x. whole w ∷ x) a
-    go a false = a
+rests_whole h ((g ∷ w) ∷ W) = grind (arith, rests_whole h W)
 
 -- the literals among some labels
 abbrev some : Label → List Literal → List Literal
@@ -65,16 +60,8 @@ by_new' t gs hs ws = choose t (ways.heads_after same_literal gs ws) (ways.heads_
 
 heads_whole : (gs : List Label) (W : List Way) → somes (heads_after gs (wholes W)) ≡ ways.heads_after same_literal (somes gs) W
 heads_whole gs [] = refl
-heads_whole gs ([] ∷ W) = go (heads_whole gs W) (heads_whole (gs ++ end ∷ []) W) (is_in end gs)
-  where
-    go : somes (heads_after gs (wholes W)) ≡ ways.heads_after same_literal (somes gs) W → somes (heads_after (gs ++ end ∷ []) (wholes W)) ≡ ways.heads_after same_literal (somes (gs ++ end ∷ [])) W → (t : Bool) → somes (by_new t gs (gs ++ end ∷ []) (wholes W)) ≡ ways.heads_after same_literal (somes gs) W
-    go a b true = a
-    go a b false = b ∙ ap (λ x. ways.heads_after same_literal x W) (somes_none gs)
-heads_whole gs ((h ∷ w) ∷ W) = go (heads_whole gs W) (heads_whole (gs ++ lit h ∷ []) W) (is_in (lit h) gs) ∙ ap (λ t. by_new' t (somes gs) (somes gs ++ h ∷ []) W) (in_somes h gs)
-  where
-    go : somes (heads_after gs (wholes W)) ≡ ways.heads_after same_literal (somes gs) W → somes (heads_after (gs ++ lit h ∷ []) (wholes W)) ≡ ways.heads_after same_literal (somes (gs ++ lit h ∷ [])) W → (t : Bool) → somes (by_new t gs (gs ++ lit h ∷ []) (wholes W)) ≡ by_new' t (somes gs) (somes gs ++ h ∷ []) W
-    go a b true = a
-    go a b false = b ∙ ap (λ x. ways.heads_after same_literal x W) (somes_some gs h)
+heads_whole gs ([] ∷ W) = grind (arith, heads_whole gs W, heads_whole (gs ++ end ∷ []) W, somes_none gs)
+heads_whole gs ((h ∷ w) ∷ W) = grind (arith, heads_whole gs W, heads_whole (gs ++ lit h ∷ []) W, in_somes h gs, somes_some gs h)
 
 -- a way has ended where the end is among the heads
 
@@ -83,41 +70,17 @@ in_other h [] = refl
 in_other h (g ∷ gs) = ap (λ t. same_label g end || t) (in_other h gs)
 
 in_heads : (gs : List Label) (W : List Way) → is_in end (heads_after gs (wholes W)) ≡ (is_in end gs || has_empty W)
-in_heads gs [] = go (is_in end gs)
-  where
-    go : (t : Bool) → t ≡ (t || false)
-    go true = refl
-    go false = refl
-in_heads gs ([] ∷ W) = go (is_in end gs) refl
-  where
-    go : (t : Bool) → is_in end gs ≡ t → is_in end (by_new t gs (gs ++ end ∷ []) (wholes W)) ≡ (t || true)
-    go true e = in_after end gs (wholes W) e
-    go false e = in_after end (gs ++ end ∷ []) (wholes W) (in_last end gs)
-in_heads gs ((h ∷ w) ∷ W) = go (in_heads gs W) (in_heads (gs ++ lit h ∷ []) W) (is_in (lit h) gs)
-  where
-    go : is_in end (heads_after gs (wholes W)) ≡ (is_in end gs || has_empty W) → is_in end (heads_after (gs ++ lit h ∷ []) (wholes W)) ≡ (is_in end (gs ++ lit h ∷ []) || has_empty W) → (t : Bool) → is_in end (by_new t gs (gs ++ lit h ∷ []) (wholes W)) ≡ (is_in end gs || has_empty W)
-    go a b true = a
-    go a b false = b ∙ ap (λ t. t || has_empty W) (in_other h gs)
+in_heads gs [] = grind arith
+in_heads gs ([] ∷ W) = grind (arith, in_after end gs (wholes W), in_after end (gs ++ end ∷ []) (wholes W) (in_last end gs))
+in_heads gs ((h ∷ w) ∷ W) = grind (arith, in_heads gs W, in_heads (gs ++ lit h ∷ []) W, in_other h gs)
 
 -- the records of a node
 
 ended_is : (n m : ℕ) (R : List WorkingRecord) → is_some (node_from n R (end_at m)) ≡ is_in end (child_lits m (views R))
 ended_is n m [] = refl
-ended_is n m (record_of.Way left ∷ R) = go (ended_is (n + 1) m R) (eqb 0 m)
-  where
-    go : is_some (node_from (n + 1) R (end_at m)) ≡ is_in end (child_lits m (views R)) → (t : Bool) → is_some (node_from (n + 1) R (end_at m)) ≡ is_in end (choose t (other ∷ child_lits m (views R)) (child_lits m (views R)))
-    go a true = a
-    go a false = a
-ended_is n m (record_of.Branch p l ∷ R) = go (ended_is (n + 1) m R) (eqb p.0 m)
-  where
-    go : is_some (node_from (n + 1) R (end_at m)) ≡ is_in end (child_lits m (views R)) → (t : Bool) → is_some (node_from (n + 1) R (end_at m)) ≡ is_in end (choose t (lit l ∷ child_lits m (views R)) (child_lits m (views R)))
-    go a true = a
-    go a false = a
-ended_is n m (record_of.End q ∷ R) = go (ended_is (n + 1) m R) (eqb q.0 m)
-  where
-    go : is_some (node_from (n + 1) R (end_at m)) ≡ is_in end (child_lits m (views R)) → (t : Bool) → is_some (choose (t && true) (Some n) (node_from (n + 1) R (end_at m))) ≡ is_in end (choose t (end ∷ child_lits m (views R)) (child_lits m (views R)))
-    go a true = refl
-    go a false = a
+ended_is n m (record_of.Way left ∷ R) = grind (arith, ended_is (n + 1) m R)
+ended_is n m (record_of.Branch p l ∷ R) = grind (arith, ended_is (n + 1) m R)
+ended_is n m (record_of.End q ∷ R) = grind (arith, ended_is (n + 1) m R)
 
 abbrev some_lit : Option Literal → List Literal → List Literal
 some_lit (Some l) ls = l ∷ ls
@@ -129,38 +92,22 @@ branch_lits m (r ∷ R) = some_lit (branch_of m r) (branch_lits m R)
 
 branch_lits_are : (m : ℕ) (R : List WorkingRecord) → branch_lits m R ≡ somes (child_lits m (views R))
 branch_lits_are m [] = refl
-branch_lits_are m (record_of.Way left ∷ R) = go (branch_lits_are m R) (eqb 0 m)
-  where
-    go : branch_lits m R ≡ somes (child_lits m (views R)) → (t : Bool) → branch_lits m R ≡ somes (choose t (other ∷ child_lits m (views R)) (child_lits m (views R)))
-    go a true = a
-    go a false = a
-branch_lits_are m (record_of.Branch p l ∷ R) = go (branch_lits_are m R) (eqb p.0 m)
-  where
-    go : branch_lits m R ≡ somes (child_lits m (views R)) → (t : Bool) → some_lit (choose t (Some l) None) (branch_lits m R) ≡ somes (choose t (lit l ∷ child_lits m (views R)) (child_lits m (views R)))
-    go a true = ap (λ x. l ∷ x) a
-    go a false = a
-branch_lits_are m (record_of.End q ∷ R) = go (branch_lits_are m R) (eqb q.0 m)
-  where
-    go : branch_lits m R ≡ somes (child_lits m (views R)) → (t : Bool) → branch_lits m R ≡ somes (choose t (end ∷ child_lits m (views R)) (child_lits m (views R)))
-    go a true = a
-    go a false = a
+branch_lits_are m (record_of.Way left ∷ R) = grind (arith, branch_lits_are m R)
+branch_lits_are m (record_of.Branch p l ∷ R) = grind (arith, branch_lits_are m R)
+branch_lits_are m (record_of.End q ∷ R) = grind (arith, branch_lits_are m R)
 
 abbrev lit_or : Literal → Option Literal → Literal
 lit_or d (Some l) = l
 lit_or d None = d
 
 branch_view : (m : ℕ) (l : Literal) (r : WorkingRecord) → branch_of m r ≡ Some l → view r ≡ link m (lit l)
-branch_view m l (record_of.Way left) e = absurd (clash (ap is_some e))
-branch_view m l (record_of.Branch p x) e = go (eqb p.0 m) refl e
-  where
-    go : (t : Bool) → eqb p.0 m ≡ t → choose t (Some x) None ≡ Some l → link p.0 (lit x) ≡ link m (lit l)
-    go true a b = (λ k. link (eqb-true p.0 m a k) (lit (ap (lit_or x) b k)))
-    go false a b = absurd (clash (ap is_some b))
-branch_view m l (record_of.End n) e = absurd (clash (ap is_some e))
+branch_view m l (record_of.Way left) e = grind arith
+branch_view m l (record_of.Branch p x) e = grind (arith, eqb-true p.0 m)
+branch_view m l (record_of.End n) e = grind arith
 
 -- what stands for a record past the end
 abbrev blank : WorkingRecord
-blank = branch_at 0 no_letter
+blank = end_at 0
 
 join_same : (limit : ℕ) (sub : ℕ → Writing) (sub' : List Way → Writing) (W : List Way) (m place : ℕ) (sofar : Operand) (S : List WorkingRecord) → ((i : ℕ) (l : Literal) → i < length S → branch_of m (get_or S i blank) ≡ Some l → sub (place + i + 1) ≡ sub' (ways.rests_of l W)) → join_at limit sub m place sofar S ≡ join_heads limit sub' W sofar (branch_lits m S)
 join_same limit sub sub' W m place sofar [] each = refl

@@ -1,9 +1,9 @@
 -- One label more of the last way keeps the links fitting.
-use Rattle.std.proofs.Common.{◌≡◌, ℕ, zero, suc, ◌+◌, ◌<◌, ◌≤◌, Bool, true, false, ◌||◌, eqb, ◌⊎◌, List, [], ◌∷◌, ◌++◌, length, get_or, sym, refl, ap, ◌∙◌, inl, inr, arith, eq-eqb, ne_eqb, eqb-true}
-use borrow.Author.Tests.{eqb-false, clash}
+use Rattle.std.proofs.Common.{◌≡◌, ℕ, zero, suc, ◌+◌, ◌<◌, ◌≤◌, Bool, true, false, eqb, ◌⊎◌, List, [], ◌∷◌, ◌++◌, length, get_or, sym, refl, ap, ◌∙◌, inl, inr, arith, eq-eqb, ne_eqb, eqb-true}
+use Rattle.std.proofs.lemmas.Bool.{false≢true, cases_eq}
 use Rattle.std.proofs.lemmas.List.{length_push, get_or_append_left, get_or_at, same_from_push}
 use Rattle.definitions.specs.Combine.{choose}
-use Rattle.merging.proofs.Labels.{Label, same_label, label_eq, label_true, label_ne, Word, rests_of, is_in, heads_after, heads, Link, none, child_lits, rests_at, rests_push, Fits}
+use Rattle.merging.proofs.Labels.{Label, label_eq, label_true, label_ne, Word, rests_of, is_in, heads_after, heads, Link, none, child_lits, rests_at, rests_push, Fits}
 
 abbrev by_head : Bool → Word → List Word → List Word
 by_head t v ws = choose t (v ∷ ws) ws
@@ -19,20 +19,12 @@ by_child t l ls = choose t (l ∷ ls) ls
 heads_append : (gs : List Label) (ws us : List Word) → heads_after gs (ws ++ us) ≡ heads_after (heads_after gs ws) us
 heads_append gs [] us = refl
 heads_append gs ([] ∷ ws) us = heads_append gs ws us
-heads_append gs ((h ∷ v) ∷ ws) us = go (heads_append gs ws us) (heads_append (gs ++ h ∷ []) ws us) (is_in h gs)
-  where
-    go : heads_after gs (ws ++ us) ≡ heads_after (heads_after gs ws) us → heads_after (gs ++ h ∷ []) (ws ++ us) ≡ heads_after (heads_after (gs ++ h ∷ []) ws) us → (t : Bool) → by_new t gs (gs ++ h ∷ []) (ws ++ us) ≡ heads_after (by_new t gs (gs ++ h ∷ []) ws) us
-    go a b true = a
-    go a b false = b
+heads_append gs ((h ∷ v) ∷ ws) us = grind (arith, heads_append gs ws us, heads_append (gs ++ h ∷ []) ws us)
 
 rests_append : (h : Label) (ws us : List Word) → rests_of h (ws ++ us) ≡ rests_of h ws ++ rests_of h us
 rests_append h [] us = refl
 rests_append h ([] ∷ ws) us = rests_append h ws us
-rests_append h ((g ∷ v) ∷ ws) us = go (rests_append h ws us) (same_label g h)
-  where
-    go : rests_of h (ws ++ us) ≡ rests_of h ws ++ rests_of h us → (t : Bool) → by_head t v (rests_of h (ws ++ us)) ≡ by_head t v (rests_of h ws) ++ rests_of h us
-    go a true = ap (λ l. v ∷ l) a
-    go a false = a
+rests_append h ((g ∷ v) ∷ ws) us = grind (arith, rests_append h ws us)
 
 at_append : (p : List Label) (ws us : List Word) → rests_at p (ws ++ us) ≡ rests_at p ws ++ rests_at p us
 at_append [] ws us = refl
@@ -52,114 +44,67 @@ at_empty gs (h ∷ p) = ap (heads_after gs) (at_none p)
 
 at_own : (v : Word) → rests_at v (v ∷ []) ≡ [] ∷ []
 at_own [] = refl
-at_own (h ∷ v) = ap (λ t. rests_at v (by_head t v [])) (label_eq h h refl) ∙ at_own v
+at_own (h ∷ v) = grind (arith, label_eq h h refl, at_own v)
 
 at_longer : (v : Word) (l : Label) → rests_at v ((v ++ l ∷ []) ∷ []) ≡ (l ∷ []) ∷ []
 at_longer [] l = refl
-at_longer (h ∷ v) l = ap (λ t. rests_at v (by_head t (v ++ l ∷ []) [])) (label_eq h h refl) ∙ at_longer v l
+at_longer (h ∷ v) l = grind (arith, label_eq h h refl, at_longer v l)
 
 -- away from v nothing changes
 heads_same : (gs p : List Label) (v : Word) (l : Label) → (p ≡ v → ⊥) → heads_after gs (rests_at p ((v ++ l ∷ []) ∷ [])) ≡ heads_after gs (rests_at p (v ∷ []))
 heads_same gs [] [] l ne = absurd (ne refl)
 heads_same gs [] (h ∷ v) l ne = refl
-heads_same gs (q ∷ p) [] l ne = go (same_label l q) ∙ sym (ap (heads_after gs) (at_none p))
-  where
-    go : (t : Bool) → heads_after gs (rests_at p (by_head t [] [])) ≡ gs
-    go true = at_empty gs p
-    go false = ap (heads_after gs) (at_none p)
-heads_same gs (q ∷ p) (h ∷ v) l ne = go (heads_same gs p v l) (same_label h q) refl
-  where
-    go : ((p ≡ v → ⊥) → heads_after gs (rests_at p ((v ++ l ∷ []) ∷ [])) ≡ heads_after gs (rests_at p (v ∷ []))) → (t : Bool) → same_label h q ≡ t → heads_after gs (rests_at p (by_head t (v ++ l ∷ []) [])) ≡ heads_after gs (rests_at p (by_head t v []))
-    go later true e = later (λ same. ne (λ k. sym (label_true h q e) k ∷ same k))
-    go later false e = refl
+heads_same gs (q ∷ p) [] l ne = grind (arith, at_empty gs p, at_none p)
+heads_same gs (q ∷ p) (h ∷ v) l ne = grind (arith, heads_same gs p v l, label_true h q)
 
 -- a literal that is no head has no rests
 in_more : (h g : Label) (gs : List Label) → is_in h gs ≡ true → is_in h (gs ++ g ∷ []) ≡ true
-in_more h g [] e = absurd (clash e)
-in_more h g (x ∷ gs) e = go (in_more h g gs) (same_label x h) e
-  where
-    go : (is_in h gs ≡ true → is_in h (gs ++ g ∷ []) ≡ true) → (t : Bool) → (t || is_in h gs) ≡ true → (t || is_in h (gs ++ g ∷ [])) ≡ true
-    go later true e' = refl
-    go later false e' = later e'
+in_more h g [] e = absurd (false≢true e)
+in_more h g (x ∷ gs) e = grind (arith, in_more h g gs)
 
 pub in_last : (h : Label) (gs : List Label) → is_in h (gs ++ h ∷ []) ≡ true
-in_last h [] = ap (λ t. t || false) (label_eq h h refl)
-in_last h (x ∷ gs) = go (in_last h gs) (same_label x h)
-  where
-    go : is_in h (gs ++ h ∷ []) ≡ true → (t : Bool) → (t || is_in h (gs ++ h ∷ [])) ≡ true
-    go later true = refl
-    go later false = later
+in_last h [] = grind (arith, label_eq h h refl)
+in_last h (x ∷ gs) = grind (arith, in_last h gs)
 
 pub in_after : (h : Label) (gs : List Label) (ws : List Word) → is_in h gs ≡ true → is_in h (heads_after gs ws) ≡ true
 in_after h gs [] e = e
 in_after h gs ([] ∷ ws) e = in_after h gs ws e
-in_after h gs ((g ∷ v) ∷ ws) e = go (in_after h gs ws e) (in_after h (gs ++ g ∷ []) ws (in_more h g gs e)) (is_in g gs)
-  where
-    go : is_in h (heads_after gs ws) ≡ true → is_in h (heads_after (gs ++ g ∷ []) ws) ≡ true → (t : Bool) → is_in h (by_new t gs (gs ++ g ∷ []) ws) ≡ true
-    go a b true = a
-    go a b false = b
+in_after h gs ((g ∷ v) ∷ ws) e = grind (arith, in_after h gs ws e, in_after h (gs ++ g ∷ []) ws (in_more h g gs e))
 
 no_rests : (h : Label) (gs : List Label) (ws : List Word) → is_in h (heads_after gs ws) ≡ false → rests_of h ws ≡ []
 no_rests h gs [] e = refl
 no_rests h gs ([] ∷ ws) e = no_rests h gs ws e
-no_rests h gs ((g ∷ v) ∷ ws) e = go (no_rests h gs ws) (no_rests h (gs ++ g ∷ []) ws) (is_in g gs) refl (same_label g h) refl e
-  where
-    go : (is_in h (heads_after gs ws) ≡ false → rests_of h ws ≡ []) → (is_in h (heads_after (gs ++ g ∷ []) ws) ≡ false → rests_of h ws ≡ []) → (t : Bool) → is_in g gs ≡ t → (u : Bool) → same_label g h ≡ u → is_in h (by_new t gs (gs ++ g ∷ []) ws) ≡ false → by_head u v (rests_of h ws) ≡ []
-    go a b true i true same e' = absurd (clash (sym e' ∙ in_after h gs ws (ap (λ x. is_in x gs) (sym (label_true g h same)) ∙ i)))
-    go a b false i true same e' = absurd (clash (sym e' ∙ in_after h (gs ++ g ∷ []) ws (ap (λ x. is_in x (gs ++ g ∷ [])) (sym (label_true g h same)) ∙ in_last g gs)))
-    go a b true i false ne e' = a e'
-    go a b false i false ne e' = b e'
+no_rests h gs ((g ∷ v) ∷ ws) e = grind (arith, no_rests h gs ws, no_rests h (gs ++ g ∷ []) ws, label_true g h, in_last g gs, in_after h gs ws, in_after h (gs ++ g ∷ []) ws)
 
 -- the children of a node
 
 kids_push_same : (m : ℕ) (l : Label) (R : List Link) → child_lits m (R ++ record { parent = m; label = l } ∷ []) ≡ child_lits m R ++ l ∷ []
-kids_push_same m l [] = ap (λ t. by_child t l []) (eq-eqb m m refl)
-kids_push_same m l (b ∷ R) = go (kids_push_same m l R) (eqb b.parent m)
-  where
-    go : child_lits m (R ++ record { parent = m; label = l } ∷ []) ≡ child_lits m R ++ l ∷ [] → (t : Bool) → by_child t b.label (child_lits m (R ++ record { parent = m; label = l } ∷ [])) ≡ by_child t b.label (child_lits m R) ++ l ∷ []
-    go a true = ap (λ x. b.label ∷ x) a
-    go a false = a
+kids_push_same m l [] = grind (arith, eq-eqb m m refl)
+kids_push_same m l (b ∷ R) = grind (arith, kids_push_same m l R)
 
 kids_push_other : (k m : ℕ) (l : Label) (R : List Link) → (m ≡ k → ⊥) → child_lits k (R ++ record { parent = m; label = l } ∷ []) ≡ child_lits k R
-kids_push_other k m l [] ne = ap (λ t. by_child t l []) (ne_eqb m k ne)
-kids_push_other k m l (b ∷ R) ne = ap (by_child (eqb b.parent k) b.label) (kids_push_other k m l R ne)
+kids_push_other k m l [] ne = grind (arith, ne_eqb m k ne)
+kids_push_other k m l (b ∷ R) ne = grind (arith, kids_push_other k m l R ne)
 
 kids_none : (k : ℕ) (R : List Link) → ((i : ℕ) → i < length R → (get_or R i none).parent < k) → child_lits k R ≡ []
 kids_none k [] low = refl
-kids_none k (b ∷ R) low =
-    let here : b.parent < k = low 0 (omega arith) in
-    ap (λ t. by_child t b.label (child_lits k R)) (ne_eqb b.parent k (λ e. omega arith)) ∙ kids_none k R (λ i l. low (suc i) (omega arith))
+kids_none k (b ∷ R) low = grind (arith, eqb-true b.parent k, low 0 (omega arith), kids_none k R (λ i l. low (suc i) (omega arith)))
 
 in_kids : (m : ℕ) (l : Label) (R : List Link) (i : ℕ) → i < length R → (get_or R i none).parent ≡ m → (get_or R i none).label ≡ l → is_in l (child_lits m R) ≡ true
 in_kids m l [] i h p q = absurd (omega arith)
-in_kids m l (b ∷ R) zero h p q = ap (λ t. is_in l (by_child t b.label (child_lits m R))) (eq-eqb b.parent m p) ∙ ap (λ t. t || is_in l (child_lits m R)) (label_eq b.label l q)
-in_kids m l (b ∷ R) (suc i) h p q = go (in_kids m l R i (omega arith) p q) (eqb b.parent m) (same_label b.label l)
-  where
-    go : is_in l (child_lits m R) ≡ true → (t u : Bool) → is_in l (by_child t b.label (child_lits m R)) ≡ true
-    go a false u = a
-    go a true u = by_in (same_label b.label l)
-      where
-        by_in : (s : Bool) → (s || is_in l (child_lits m R)) ≡ true
-        by_in true = refl
-        by_in false = a
+in_kids m l (b ∷ R) zero h p q = grind (arith, eq-eqb b.parent m p, label_eq b.label l q)
+in_kids m l (b ∷ R) (suc i) h p q = grind (arith, in_kids m l R i (omega arith) p q)
 
 not_in_kids : (m : ℕ) (l : Label) (R : List Link) → ((i : ℕ) → i < length R → (get_or R i none).parent ≡ m → (get_or R i none).label ≡ l → ⊥) → is_in l (child_lits m R) ≡ false
 not_in_kids m l [] h = refl
-not_in_kids m l (b ∷ R) h = go (not_in_kids m l R (λ i j. h (suc i) (omega arith))) (eqb b.parent m) refl
-  where
-    go : is_in l (child_lits m R) ≡ false → (t : Bool) → eqb b.parent m ≡ t → is_in l (by_child t b.label (child_lits m R)) ≡ false
-    go a false e = a
-    go a true e = ap (λ t. t || is_in l (child_lits m R)) (label_ne b.label l (h 0 (omega arith) (eqb-true b.parent m e))) ∙ a
+not_in_kids m l (b ∷ R) h = grind (arith, not_in_kids m l R (λ i j. h (suc i) (omega arith)), h 0 (omega arith), eqb-true b.parent m, label_ne b.label l)
 
 -- the heads at v once the last way goes on by l
 heads_at : (ws : List Word) (v : Word) (l : Label) → heads (rests_at v (ws ++ (v ++ l ∷ []) ∷ [])) ≡ heads_after (heads (rests_at v (ws ++ v ∷ []))) ((l ∷ []) ∷ [])
-heads_at ws v l =
-    heads_last v ws (v ++ l ∷ [])
-    ∙ ap (heads_after (heads (rests_at v ws))) (at_longer v l)
-    ∙ ap (λ gs. heads_after gs ((l ∷ []) ∷ [])) (sym (heads_last v ws v ∙ ap (heads_after (heads (rests_at v ws))) (at_own v)))
+heads_at ws v l = grind (arith, heads_last v ws (v ++ l ∷ []), at_longer v l, heads_last v ws v, at_own v)
 
 heads_off : (p : List Label) (ws : List Word) (v : Word) (l : Label) → (p ≡ v → ⊥) → heads (rests_at p (ws ++ v ∷ [])) ≡ heads (rests_at p (ws ++ (v ++ l ∷ []) ∷ []))
-heads_off p ws v l ne = heads_last p ws v ∙ sym (heads_same (heads (rests_at p ws)) p v l ne) ∙ sym (heads_last p ws (v ++ l ∷ []))
+heads_off p ws v l ne = grind (arith, heads_last p ws v, heads_same (heads (rests_at p ws)) p v l ne, heads_last p ws (v ++ l ∷ []))
 
 -- an empty way is there before its first literal
 pub way_starts : (R : List Link) (path : ℕ → List Label) (ws : List Word) → Fits R path ws → Fits R path (ws ++ [] ∷ [])
@@ -175,25 +120,13 @@ way_starts R path ws f =
 -- the branch is there already
 pub way_follows : (R : List Link) (path : ℕ → List Label) (ws : List Word) (v : Word) (m : ℕ) (l : Label) (i : ℕ) → Fits R path (ws ++ v ∷ []) → m ≤ length R → path m ≡ v → i < length R → (get_or R i none).parent ≡ m → (get_or R i none).label ≡ l → Fits R path (ws ++ (v ++ l ∷ []) ∷ [])
 way_follows R path ws v m l i f ml pv il ip iq =
-    record { root = f.root; step = f.step; low = f.low; apart = f.apart; kids = λ k kl. each k kl (same_or k m) }
+    record { root = f.root; step = f.step; low = f.low; apart = f.apart; kids = λ k kl. each k kl (cases_eq k m) }
   where
-    same_or : (a b : ℕ) → (a ≡ b) ⊎ (a ≡ b → ⊥)
-    same_or a b = go (eqb a b) refl
-      where
-        go : (t : Bool) → eqb a b ≡ t → (a ≡ b) ⊎ (a ≡ b → ⊥)
-        go true e = inl (eqb-true a b e)
-        go false e = inr (eqb-false a b e)
-
     each : (k : ℕ) → k ≤ length R → (k ≡ m) ⊎ (k ≡ m → ⊥) → child_lits k R ≡ heads (rests_at (path k) (ws ++ (v ++ l ∷ []) ∷ []))
     each k kl (inr ne) = f.kids k kl ∙ heads_off (path k) ws v l (λ e. ne (f.apart k m kl ml (e ∙ sym pv)))
     each k kl (inl e) =
-        let H = heads (rests_at v (ws ++ v ∷ [])) in
-        let there : child_lits m R ≡ H = f.kids m ml ∙ ap (λ p. heads (rests_at p (ws ++ v ∷ []))) pv in
-        ap (λ n. child_lits n R) e
-        ∙ there
-        ∙ sym (ap (λ t. by_new t H (H ++ l ∷ []) []) (sym (ap (is_in l) there) ∙ in_kids m l R i il ip iq))
-        ∙ sym (heads_at ws v l)
-        ∙ ap (λ p. heads (rests_at p (ws ++ (v ++ l ∷ []) ∷ []))) (sym (ap path e ∙ pv))
+        let there : child_lits m R ≡ heads (rests_at v (ws ++ v ∷ [])) = f.kids m ml ∙ ap (λ p. heads (rests_at p (ws ++ v ∷ []))) pv in
+        rw (e, pv, heads_at ws v l) (grind (arith, there, in_kids m l R i il ip iq))
 
 -- the paths once node n is new
 abbrev pub paths_with : ℕ → List Label → (ℕ → List Label) → ℕ → List Label
@@ -210,10 +143,10 @@ module _ (R : List Link) (path : ℕ → List Label) (ws : List Word) (v : Word)
   p' = paths_with N (v ++ l ∷ []) path
 
   old : (k : ℕ) → k ≤ length R → p' k ≡ path k
-  old k h = ap (λ t. choose t (v ++ l ∷ []) (path k)) (ne_eqb k N (λ e. omega arith))
+  old k h = grind (arith, ne_eqb k N)
 
   pub newest : p' N ≡ v ++ l ∷ []
-  newest = ap (λ t. choose t (v ++ l ∷ []) (path N)) (eq-eqb N N refl)
+  newest = grind (arith, eq-eqb N N refl)
 
   long : length (R ++ b ∷ []) ≡ length R + 1
   long = length_push R b
@@ -226,38 +159,25 @@ module _ (R : List Link) (path : ℕ → List Label) (ws : List Word) (v : Word)
 
   -- no node had the new path
   fresh : (k : ℕ) → k ≤ length R → path k ≡ v ++ l ∷ [] → ⊥
-  fresh zero h e = let long' : 0 ≡ length v + 1 = ap length (sym f.root ∙ e) ∙ length_push v l in omega arith
+  fresh zero h e = grind (arith, f.root, length_push v l)
   fresh (suc i) h e =
-      let il : i < length R = h in
       let at : i + 1 ≡ suc i = omega arith in
-      let s = same_from_push (path (get_or R i none).parent) v (get_or R i none).label l (sym (f.step i il) ∙ ap path at ∙ e) in
-      let lo : (get_or R i none).parent ≤ i = f.low i il in
-      new i il (f.apart (get_or R i none).parent m (omega arith) ml (s.0 ∙ sym pv)) s.1
+      let s = same_from_push (path (get_or R i none).parent) v (get_or R i none).label l (sym (f.step i h) ∙ ap path at ∙ e) in
+      new i h (f.apart (get_or R i none).parent m (omega (arith, f.low i h)) ml (s.0 ∙ sym pv)) s.1
 
   last_or : (k : ℕ) → k ≤ length (R ++ b ∷ []) → (k ≡ N) ⊎ (k ≤ length R)
-  last_or k h = go (eqb k N) refl
-    where
-      go : (t : Bool) → eqb k N ≡ t → (k ≡ N) ⊎ (k ≤ length R)
-      go true e = inl (eqb-true k N e)
-      go false e = let ne = eqb-false k N e in inr (omega (arith, long))
+  last_or k h = elim (cases_eq k N) [ inl e ↦ inl e | inr ne ↦ inr (omega (arith, long, ne)) ]
 
   split : (i : ℕ) → i < length (R ++ b ∷ []) → (i ≡ length R) ⊎ (i < length R)
-  split i h = go (eqb i (length R)) refl
-    where
-      go : (t : Bool) → eqb i (length R) ≡ t → (i ≡ length R) ⊎ (i < length R)
-      go true e = inl (eqb-true i (length R) e)
-      go false e = let ne = eqb-false i (length R) e in inr (omega (arith, long))
+  split i h = elim (cases_eq i (length R)) [ inl e ↦ inl e | inr ne ↦ inr (omega (arith, long, ne)) ]
 
   steps : (i : ℕ) → (i ≡ length R) ⊎ (i < length R) → p' (i + 1) ≡ p' (get_or (R ++ b ∷ []) i none).parent ++ (get_or (R ++ b ∷ []) i none).label ∷ []
-  steps i (inl e) =
-      ap (λ n. p' (n + 1)) e ∙ newest ∙ sym ((λ k. p' (get_or (R ++ b ∷ []) (e k) none).parent ++ (get_or (R ++ b ∷ []) (e k) none).label ∷ []) ∙ ap (λ x. p' x.parent ++ x.label ∷ []) at_new ∙ ap (λ x. x ++ l ∷ []) (old m ml ∙ pv))
-  steps i (inr h) =
-      let lo : (get_or R i none).parent ≤ i = f.low i h in
-      old (i + 1) (omega arith) ∙ f.step i h ∙ sym (ap (λ x. p' x.parent ++ x.label ∷ []) (at_old i h) ∙ ap (λ x. x ++ (get_or R i none).label ∷ []) (old (get_or R i none).parent (omega arith)))
+  steps i (inl e) = rw (e, at_new, newest, old m ml, pv) refl
+  steps i (inr h) = rw (at_old i h, old (i + 1) (omega (arith, h)), old (get_or R i none).parent (omega (arith, h, f.low i h))) (f.step i h)
 
   lows : (i : ℕ) → (i ≡ length R) ⊎ (i < length R) → (get_or (R ++ b ∷ []) i none).parent ≤ i
-  lows i (inl e) = let s : (get_or (R ++ b ∷ []) i none).parent ≡ m = ap (λ n. (get_or (R ++ b ∷ []) n none).parent) e ∙ ap (λ x. x.parent) at_new in omega (arith, ml)
-  lows i (inr h) = let s : (get_or (R ++ b ∷ []) i none).parent ≡ (get_or R i none).parent = ap (λ x. x.parent) (at_old i h) in omega (arith, f.low i h)
+  lows i (inl e) = grind (arith, at_new)
+  lows i (inr h) = rw (at_old i h) (f.low i h)
 
   aparts : (j k : ℕ) → (j ≡ N) ⊎ (j ≤ length R) → (k ≡ N) ⊎ (k ≤ length R) → p' j ≡ p' k → j ≡ k
   aparts j k (inl x) (inl y) e = x ∙ sym y
@@ -276,31 +196,17 @@ module _ (R : List Link) (path : ℕ → List Label) (ws : List Word) (v : Word)
 
   kids_new : child_lits N (R ++ b ∷ []) ≡ heads (rests_at (v ++ l ∷ []) ws')
   kids_new =
-      kids_none N (R ++ b ∷ []) (λ i h. let lo = lows i (split i h) in omega (arith, long))
-      ∙ sym (
-      heads_last (v ++ l ∷ []) ws (v ++ l ∷ [])
-      ∙ ap (heads_after (heads (rests_at (v ++ l ∷ []) ws))) (at_own (v ++ l ∷ []))
-      ∙ ap heads (rests_push v l ws)
-      ∙ ap heads (no_rests l [] (rests_at v ws) (ap (is_in l) (sym (heads_last v ws v ∙ ap (heads_after (heads (rests_at v ws))) (at_own v))) ∙ absent))
-      )
+      let none_behind = kids_none N (R ++ b ∷ []) (λ i h. let lo = lows i (split i h) in omega (arith, long)) in
+      let v' = v ++ l ∷ [] in
+      grind (arith, none_behind, heads_last v' ws v', at_own v', rests_push v l ws, no_rests l [] (rests_at v ws), heads_last v ws v, at_own v, absent)
 
   kids_all : (k : ℕ) → (k ≡ N) ⊎ (k ≤ length R) → child_lits k (R ++ b ∷ []) ≡ heads (rests_at (p' k) ws')
-  kids_all k (inl e) = ap (λ n. child_lits n (R ++ b ∷ [])) e ∙ kids_new ∙ ap (λ p. heads (rests_at p ws')) (sym (ap p' e ∙ newest))
-  kids_all k (inr h) = go (eqb k m) refl
+  kids_all k (inl e) = rw (e, newest) kids_new
+  kids_all k (inr h) = rw (old k h) (by (cases_eq k m))
     where
-      H : List Label
-      H = heads (rests_at v (ws ++ v ∷ []))
-
-      go : (t : Bool) → eqb k m ≡ t → child_lits k (R ++ b ∷ []) ≡ heads (rests_at (p' k) ws')
-      go true e =
-          let km = eqb-true k m e in
-          ap (λ n. child_lits n (R ++ b ∷ [])) km ∙ kids_push_same m l R ∙ ap (λ x. x ++ l ∷ []) there
-          ∙ sym (ap (λ t. by_new t H (H ++ l ∷ []) []) absent)
-          ∙ sym (heads_at ws v l)
-          ∙ ap (λ p. heads (rests_at p ws')) (sym (old k h ∙ ap path km ∙ pv))
-      go false e =
-          let ne = eqb-false k m e in
-          kids_push_other k m l R (λ x. ne (sym x)) ∙ f.kids k h ∙ heads_off (path k) ws v l (λ x. ne (f.apart k m h ml (x ∙ sym pv))) ∙ ap (λ p. heads (rests_at p ws')) (sym (old k h))
+      by : (k ≡ m) ⊎ (k ≡ m → ⊥) → child_lits k (R ++ b ∷ []) ≡ heads (rests_at (path k) ws')
+      by (inl e) = rw (e, pv, kids_push_same m l R, heads_at ws v l) (grind (arith, there, absent))
+      by (inr ne) = kids_push_other k m l R (λ e. ne (sym e)) ∙ f.kids k h ∙ heads_off (path k) ws v l (λ e. ne (f.apart k m h ml (e ∙ sym pv)))
 
   pub way_grows : Fits (R ++ b ∷ []) p' ws'
   way_grows =

@@ -2,7 +2,6 @@
 -- A branch says that a way goes on from a node by a literal, and an end that a way ends at a node.
 use Rattle.std.specs.Prelude.{ℕ, zero, suc, ◌+◌, Bool, true, false, ◌&&◌, List, [], ◌∷◌, ◌++◌, length, is_some, Some, None, Option, ◌==◌}
 use Rattle.rack.specs.declared.part.Literal.{Literal}
-use Rattle.rack.specs.declared.part.Sign.TheVariants.{Works}
 use Rattle.rack.specs.Way.{Way}
 use Rattle.table.specs.Kept.{same_literal}
 use Rattle.definitions.specs.declared.operand.Operator.TheVariants.{Meet, Join}
@@ -19,31 +18,11 @@ is_mark (record_of.Way left) = false
 is_mark (record_of.Branch p l) = true
 is_mark (record_of.End n) = true
 
--- what kind of record
-abbrev pub sort : WorkingRecord → ℕ
-sort (record_of.Way left) = 0
-sort (record_of.Branch p l) = 1
-sort (record_of.End n) = 2
-
--- the node of a mark
-abbrev pub owner : WorkingRecord → ℕ
-owner (record_of.Way left) = 0
-owner (record_of.Branch p l) = p.0
-owner (record_of.End n) = n.0
-
--- what stands for a literal where there is none
-abbrev pub no_letter : Literal
-no_letter = record { part = record { 0 = 0 }; sign = Works }
-
--- the literal of a branch
-abbrev pub letter : WorkingRecord → Literal
-letter (record_of.Way left) = no_letter
-letter (record_of.Branch p l) = l
-letter (record_of.End n) = no_letter
-
--- sort, node and literal agree
+-- two branches of one node by one literal, or two ends at one node
 abbrev pub same_mark : WorkingRecord → WorkingRecord → Bool
-same_mark a b = sort a == sort b && (owner a == owner b && same_literal (letter a) (letter b))
+same_mark (record_of.Branch p l) (record_of.Branch q k) = p.0 == q.0 && same_literal l k
+same_mark (record_of.End p) (record_of.End q) = p.0 == q.0
+same_mark _ _ = false
 
 -- a branch of node n
 abbrev pub branch_at : ℕ → Literal → WorkingRecord

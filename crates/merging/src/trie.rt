@@ -1,8 +1,8 @@
-ghost use Rattle.std.specs.Prelude.{◌≡◌, ◌+◌, ◌<◌, ◌≤◌, true, [], length, take};
+ghost use Rattle.std.specs.Prelude.{◌≡◌, ◌+◌, ◌<◌, ◌≤◌, true, length};
 ghost use Rattle.definitions.specs.Writing.{Wrote};
-ghost use Rattle.working.specs.Records.{left_in, ways_in, size};
+ghost use Rattle.working.specs.Records.{left_in, way_in, ways_in, size};
 ghost use Rattle.merging.specs.Merging.{merging};
-ghost use Rattle.merging.specs.Trie.{is_mark, branch_of, ended, reached, reaching, entering, entering_all, merge_at};
+ghost use Rattle.merging.specs.Trie.{is_mark, branch_of, ended, reaching, entering, entering_all, merge_at};
 
 use definitions::draft::{Draft, LimitReached};
 use definitions::operand::{Operand, Operator};
@@ -11,103 +11,121 @@ use rack::part::Literal;
 use working::record::{Node, WorkingRecord};
 use working::rule::Writer;
 
-/// The literal, where the record is a branch of the node.
-fn branch_of(record: &WorkingRecord, node: Node) -> Option<Literal>
-    ensures { result ≡ branch_of node.0 «record».now }
+/// The places of a way, and of a record that is no way none.
+fn places(way: &WorkingRecord) -> &[Option<Literal>]
+    ensures { left_in result.now ≡ way_in way.now }
 {
-    match record {
+    match way {
+        WorkingRecord::Way { left } => left,
+        _ => &[],
+    }
+}
+
+/// The literal, where the mark is a branch of the node.
+fn branch_of(mark: &WorkingRecord, node: Node) -> Option<Literal>
+    ensures { result ≡ branch_of node.0 mark.now }
+{
+    match mark {
         WorkingRecord::Branch { parent, literal } if *parent == node => Some(*literal),
         _ => None,
     }
 }
 
-/// Whether a way ends at the node.
-fn is_ended(records: &[WorkingRecord], node: Node) -> bool
-    ensures { result ≡ ended records.now node.0 }
-{
-    find_first(records, &WorkingRecord::End { node }).is_some()
+/// A trie of ways: its branches and ends are the first `count` of the records that it is lent.
+// Kept: a node is the number of a record, since the libraries have no heap.
+#[derive(Drop)]
+struct Trie<'a> {
+    records: &'a mut [WorkingRecord],
+    count: usize,
+    ghost within: { count ≤ length records.now },
 }
 
-/// The node that a branch or an end leads to; it is put behind the first `count` records where it is not among them.
-fn reach(records: &mut [WorkingRecord], count: &mut usize, wanted: WorkingRecord) -> Node
-    requires mark { is_mark wanted ≡ true }
-    requires room { count.old < length records.old }
-    ensures room { count.new ≤ count.old + 1 }
-    ensures value { reached result.0 (take count.new records.new) ≡ reaching wanted (take count.old records.old) }
-{
-    let n = *count;
-    match find_first(&records[..n], &wanted) {
-        Some(i) => Node(i + 1),
-        None => {
-            records[n] = wanted;
-            *count = n + 1;
-            Node(n + 1)
-        }
+impl Trie<'_> {
+    ghost use Rattle.merging.specs.Marks.{marks, spare};
+
+    /// The branches and ends.
+    fn marks(&self) -> &[WorkingRecord]
+        ensures { result.now ≡ marks self.now }
+    {
+        &self.records[..self.count]
     }
-}
 
-/// Enters a way, by its places: its literals from the root on, and its end. A place that holds none is passed over.
-fn enter(left: &[Option<Literal>], records: &mut [WorkingRecord], count: &mut usize)
-    requires { count.old + length (left_in left.now) + 1 ≤ length records.old }
-    ensures room { count.new ≤ count.old + length (left_in left.now) + 1 }
-    ensures value { take count.new records.new ≡ entering (left_in left.now) 0 (take count.old records.old) }
-{
-    let mut node = Node::ROOT;
-    for place in left {
-        if let Some(literal) = place {
-            node = reach(
-                records,
-                count,
-                WorkingRecord::Branch {
+    /// The node that a branch or an end leads to; it comes behind the others where it is not among them.
+    fn reach(&mut self, mark: WorkingRecord) -> Node
+        requires mark { is_mark mark ≡ true }
+        requires room { 0 < spare self.old }
+        ensures room { spare self.old ≤ spare self.new + 1 }
+        ensures node { result.0 ≡ (reaching mark (marks self.old)).node }
+        ensures marks { marks self.new ≡ (reaching mark (marks self.old)).records }
+    {
+        if let Some(place) = find_first(self.marks(), &mark) {
+            return Node(place + 1);
+        }
+        self.records[self.count] = mark;
+        self.count += 1;
+        Node(self.count)
+    }
+
+    /// Enters a way, by its places: its literals from the root on, and its end. A place that holds none is passed over.
+    fn enter(&mut self, left: &[Option<Literal>])
+        requires { length (left_in left.now) + 1 ≤ spare self.old }
+        ensures room { spare self.old ≤ spare self.new + length (left_in left.now) + 1 }
+        ensures value { marks self.new ≡ entering (left_in left.now) 0 (marks self.old) }
+    {
+        let mut node = Node::ROOT;
+        for place in left {
+            if let Some(literal) = place {
+                node = self.reach(WorkingRecord::Branch {
                     parent: node,
                     literal: *literal,
-                },
-            );
+                });
+            }
         }
+        self.reach(WorkingRecord::End { node });
     }
-    let _ = reach(records, count, WorkingRecord::End { node });
-}
 
-/// Enters each way of the list, and answers how many records the trie takes.
-fn fill(list: &[WorkingRecord], room: &mut [WorkingRecord]) -> usize
-    requires { size (ways_in list.now) ≤ length room.old }
-    ensures within { result ≤ length room.new }
-    ensures value { take result room.new ≡ entering_all (ways_in list.now) [] }
-{
-    let mut used = 0;
-    for record in list {
-        match record {
-            WorkingRecord::Way { left } => enter(left, room, &mut used),
-            _ => enter(&[], room, &mut used),
+    /// Enters one way after another.
+    fn fill(&mut self, ways: &[WorkingRecord])
+        requires { size (ways_in ways.now) ≤ spare self.old }
+        ensures { marks self.new ≡ entering_all (ways_in ways.now) (marks self.old) }
+    {
+        for way in ways {
+            self.enter(places(way));
         }
     }
-    used
-}
 
-/// What is below the node, so many literals deep: each of its branches in turn, and of each what is below it first.
-fn merge(
-    records: &[WorkingRecord],
-    node: Node,
-    height: usize,
-    draft: &mut Draft<'_>,
-) -> Result<Operand, LimitReached>
-    ensures { Wrote draft.old draft.new result (merge_at draft.old.limit height records.now node.0) }
-{
-    if is_ended(records, node) {
-        return Ok(Operand::Always);
+    /// Whether a way ends at the node.
+    fn is_ended(&self, node: Node) -> bool
+        ensures { result ≡ ended (marks self.now) node.0 }
+    {
+        find_first(self.marks(), &WorkingRecord::End { node }).is_some()
     }
-    if height == 0 {
-        return Ok(Operand::Never);
-    }
-    let mut sofar = Operand::Never;
-    for (place, record) in records.iter().enumerate() {
-        if let Some(literal) = branch_of(record, node) {
-            let below = merge(records, Node(place + 1), height - 1, draft)?;
-            let met = draft.combine(Operator::Meet, Operand::from(literal), below)?;
-            sofar = draft.combine(Operator::Join, sofar, met)?;
+
+    /// What is below the node, so many literals deep: each of its branches in turn, and of each what is below it first.
+    fn merge(
+        &self,
+        node: Node,
+        height: usize,
+        draft: &mut Draft<'_>,
+    ) -> Result<Operand, LimitReached>
+        ensures { Wrote draft.old draft.new result (merge_at draft.old.limit height (marks self.now) node.0) }
+    {
+        if self.is_ended(node) {
+            return Ok(Operand::Always);
         }
+        if height == 0 {
+            return Ok(Operand::Never);
+        }
+        let mut sofar = Operand::Never;
+        for (place, mark) in self.marks().iter().enumerate() {
+            if let Some(literal) = branch_of(mark, node) {
+                let below = self.merge(Node(place + 1), height - 1, draft)?;
+                let met = draft.combine(Operator::Meet, Operand::from(literal), below)?;
+                sofar = draft.combine(Operator::Join, sofar, met)?;
+            }
+        }
+        Ok(sofar)
     }
-    Ok(sofar)
 }
 
 /// Merging: ways with a common beginning are written together, by a trie of the ways in the room behind them.
@@ -123,7 +141,11 @@ impl Writer for NodeMerging {
         draft: &mut Draft<'_>,
     ) -> Result<Operand, LimitReached> {
         let height = room.len();
-        let used = fill(ways, room);
-        merge(&room[..used], Node::ROOT, height, draft)
+        let mut trie = Trie {
+            records: room,
+            count: 0,
+        };
+        trie.fill(ways);
+        trie.merge(Node::ROOT, height, draft)
     }
 }

@@ -12,4 +12,4 @@ returns c =
     let limit = c.args.draft.now.limit in
     let ws = ways_in c.args.ways.now in
     let h = length c.args.room.now in
-    like (deep_enough limit h ws c.requires ∙ sym (linked limit h ws) ∙ sym (ap (λ rs. merge_at limit h rs 0) c.fill-used.ensures.value)) c.merge.ensures
+    like (deep_enough limit h ws c.requires ∙ sym (linked limit h ws) ∙ sym (ap (λ rs. merge_at limit h rs 0) c.fill.ensures)) c.merge.ensures
