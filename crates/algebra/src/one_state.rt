@@ -1,4 +1,3 @@
-ghost use Rattle.std.specs.Prelude.{◌≡◌, true, false, not, ◌&&◌, ◌||◌};
 ghost use Rattle.algebra.specs.Models.{one_state};
 ghost use Rattle.std.proofs.Common.{rules};
 
@@ -19,37 +18,27 @@ impl BooleanAlgebra for OneState {
 
     ghost complemented = { Prim.search rules };
 
-    fn bottom() -> OneState
-        ensures { result.holds ≡ false }
-    {
+    fn bottom() -> OneState {
         OneState { holds: false }
     }
 
-    fn top() -> OneState
-        ensures { result.holds ≡ true }
-    {
+    fn top() -> OneState {
         OneState { holds: true }
     }
 
-    fn meet(self, other: OneState) -> OneState
-        ensures { result.holds ≡ (self.holds && other.holds) }
-    {
+    fn meet(self, other: OneState) -> OneState {
         OneState {
             holds: self.holds & other.holds,
         }
     }
 
-    fn join(self, other: OneState) -> OneState
-        ensures { result.holds ≡ (self.holds || other.holds) }
-    {
+    fn join(self, other: OneState) -> OneState {
         OneState {
             holds: self.holds | other.holds,
         }
     }
 
-    fn complement(self) -> OneState
-        ensures { result.holds ≡ not self.holds }
-    {
+    fn complement(self) -> OneState {
         OneState { holds: !self.holds }
     }
 }

@@ -10,6 +10,7 @@ pub struct SampledStates {
     pub bits: u64,
 }
 
+// Kept: no one impl with OneState over std's `&`, `|` and `!`, whose traits promise no laws from which an algebra's could be proved.
 impl BooleanAlgebra for SampledStates {
     ghost algebra = { sampled };
 
@@ -64,5 +65,5 @@ pub fn same_states(a: SampledStates, b: SampledStates) -> bool
     ensures bits { Decides result (a.bits ≡ b.bits) }
     ensures value { Decides result (samples a.bits ≡ samples b.bits) }
 {
-    a.bits == b.bits
+    a == b
 }

@@ -29,10 +29,9 @@ fn write(script: &mut Script, i: usize, last: Operand) -> Operand {
     } else {
         Operator::Meet
     };
-    match script.combine(operator, earlier(i, last), second) {
-        Ok(operand) => operand,
-        Err(_) => last,
-    }
+    script
+        .combine(operator, earlier(i, last), second)
+        .unwrap_or(last)
 }
 
 /// Builds the script, evaluates its last definition in each round, and answers what the rounds gave, folded into one number. A round

@@ -4,6 +4,8 @@ ghost use Rattle.delivery.specs.Lines.{operand_digits, start_line, definition_li
 use definitions::operand::{Definition, Operand};
 use rack::hex::{hex_byte, hex_word};
 
+// Kept: lines are put together as arrays, here and below, since the libraries use no heap and each byte is promised.
+
 /// The six digits of an operand: two of kind and four of number.
 pub fn operand_digits(operand: Operand) -> [u8; 6]
     ensures { result ≡ operand_digits operand }
@@ -39,10 +41,12 @@ pub fn end_line(operand: Operand) -> [u8; 9]
     [b'6', b'0', a, b, c, d, e, f, 0x0A]
 }
 
-/// Puts bytes at the front of a buffer; later bytes stay.
-pub(crate) fn put_front(buffer: &mut [u8], bytes: &[u8])
-    requires { length bytes.now ≤ length buffer.old }
-    ensures { buffer.new ≡ over bytes.now buffer.old }
+/// Puts a line at the front of a buffer, and answers its length; later bytes stay.
+pub(crate) fn put_front(buffer: &mut [u8], line: &[u8]) -> usize
+    requires { length line.now ≤ length buffer.old }
+    ensures front { buffer.new ≡ over line.now buffer.old }
+    ensures length { result ≡ length line.now }
 {
-    buffer[0..bytes.len()].copy_from_slice(bytes);
+    buffer[..line.len()].copy_from_slice(line);
+    line.len()
 }

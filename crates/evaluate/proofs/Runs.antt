@@ -1,7 +1,6 @@
 -- The values of definitions, one more at a time, and that those of the first definitions do not hang on later ones.
 use Rattle.std.proofs.Common.{◌≡◌, ℕ, ◌+◌, ◌-◌, ◌<◌, ◌≤◌, true, ltb, leb, List, [], ◌∷◌, ◌++◌, map, length, get_or, take, drop, set, sym, refl, ap, ◌∙◌, arith}
-use native.Mathlib.Nat.{sub-zero}
-use Rattle.std.proofs.lemmas.List.{length-append, length-take-le, drop-drop, drop-set-lt, map_push, take_more_set, at_drop_more, get_or_append_left, get_or-map, get_or_past, length-map, take-append-drop}
+use Rattle.std.proofs.lemmas.List.{length-append, length-take-le, drop-drop, drop-set-lt, map_push, take_more_set, at_drop_more, get_or_append_left, take-append-drop}
 use Rattle.std.proofs.lemmas.Bool.{and_parts, ltb-true, leb-true}
 use Rattle.definitions.specs.declared.operand.Operand.{Operand}
 use Rattle.definitions.specs.declared.operand.Operand.TheVariants.{Never, Always, Works, Out, Defined}
@@ -12,12 +11,11 @@ use Rattle.script.specs.Script.{known}
 use Rattle.algebra.specs.Algebra.{Algebra}
 use Rattle.algebra.specs.Worth.{Settings, operand_worth, definition_worth, values_after, values, worth}
 
--- an element that was read within a list has the value that stands there
-pub read_value : {X Y : Type 0} (f : X → Y) (xs : List X) (i : ℕ) (x : X) (e : Y) → i < length xs → x ≡ get_or xs i x → f x ≡ get_or (map f xs) i e
-read_value f xs i x e h is = ap f is ∙ sym (get_or-map f xs i x e h)
-
-pub value_past : {X Y : Type 0} (f : X → Y) (xs : List X) (i : ℕ) (e : Y) → length xs ≤ i → get_or (map f xs) i e ≡ e
-value_past f xs i e h = get_or_past (map f xs) i e (simp length-map h)
+-- i definitions are worked out by n operations: what is left of ds goes on from their values to all, and later elements are as they were
+pub record Underway (A : Algebra) {X : Type 0} (value : X → A.Value) (s : Settings A) (ds : List Definition) (was now : List X) (i n : ℕ) : Type 0 where
+  pub counted : n ≡ i
+  pub onward : values_after A s (map value (take i now)) (drop i ds) ≡ values A s ds
+  pub later : drop i now ≡ drop i was
 
 -- what stays as it was, behind one place more
 pub later_more : {X : Type 0} (i : ℕ) (xs ys : List X) (x : X) → drop i xs ≡ drop i ys → drop (i + 1) (set xs i x) ≡ drop (i + 1) ys
@@ -25,12 +23,11 @@ later_more i xs ys x e = drop-set-lt (i + 1) xs i x (omega arith) ∙ sym (drop-
 
 module _ {X : Type 0} (A : Algebra) (f : X → A.Value) (s : Settings A) where
   -- the element of the definition at place i, worked out by those before it, as the code reads them
-  pub values_more : (elements : List X) (ds : List Definition) (i : ℕ) (x : X) → i < length ds → i < length elements → f x ≡ definition_worth A s (map f (take (i - 0) elements)) (get_or ds i blank) → values_after A s (map f (take (i + 1) (set elements i x))) (drop (i + 1) ds) ≡ values_after A s (map f (take i elements)) (drop i ds)
+  pub values_more : (elements : List X) (ds : List Definition) (i : ℕ) (x : X) → i < length ds → i < length elements → f x ≡ definition_worth A s (map f (take i elements)) (get_or ds i blank) → values_after A s (map f (take (i + 1) (set elements i x))) (drop (i + 1) ds) ≡ values_after A s (map f (take i elements)) (drop i ds)
   values_more elements ds i x hd he e =
       let done : List A.Value = map f (take i elements) in
-      let same = ap (λ k. definition_worth A s (map f (take k elements)) (get_or ds i blank)) (sub-zero i) in
       let taken : map f (take (i + 1) (set elements i x)) ≡ done ++ f x ∷ [] = ap (map f) (take_more_set elements i x he) ∙ map_push f (take i elements) x in
-      ap (λ t. values_after A s t (drop (i + 1) ds)) (taken ∙ ap (λ v. done ++ v ∷ []) (e ∙ same)) ∙ sym (at_drop_more (values_after A s done) ds i blank hd)
+      ap (λ t. values_after A s t (drop (i + 1) ds)) (taken ∙ ap (λ v. done ++ v ∷ []) e) ∙ sym (at_drop_more (values_after A s done) ds i blank hd)
 
 module _ (A : Algebra) (s : Settings A) where
   split : (vs : List A.Value) (ds es : List Definition) → values_after A s vs (ds ++ es) ≡ values_after A s (values_after A s vs ds) es

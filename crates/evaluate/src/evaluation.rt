@@ -2,25 +2,28 @@ ghost use Rattle.std.specs.Prelude.{◌≡◌, ◌≤◌, length};
 ghost use Rattle.script.specs.Script.{definitions_of};
 ghost use Rattle.evaluate.specs.Evaluation.{WorkedOut, Evaluation};
 
-use crate::lookup::{SETTINGS, definition_element, operand_element};
+use crate::settings::Settings;
 use algebra::boolean::BooleanAlgebra;
 use definitions::operand::{Definition, Operand};
 use rack::refusal::Refusal;
 use script::script::Script;
 
+/// The number of settings: one a part.
+const SETTINGS: usize = 256;
+
 /// Works the definitions out into the first elements, and answers the number of operations run; later elements stay.
 fn work_out<A: BooleanAlgebra>(
     definitions: &[Definition],
-    settings: &[A],
+    settings: &Settings<'_, A>,
     elements: &mut [A],
 ) -> usize
-    requires whole { length settings.now ≡ 256 }
-    requires room { length definitions.now ≤ length elements.old }
-    ensures { WorkedOut A.algebra A.value definitions.now settings.now elements.old elements.new result }
+    requires { length definitions.now ≤ length elements.old }
+    ensures { WorkedOut A.algebra A.value definitions.now settings.now.elements.now elements.old elements.new result }
 {
+    // Kept: that one loop over the definitions with their index runs the operations and counts them is a rule of the project.
     let mut operations = 0;
     for (i, definition) in definitions.iter().enumerate() {
-        elements[i] = definition_element(definition, settings, &elements[0..i]);
+        elements[i] = settings.definition_element(definition, &elements[..i]);
         operations += 1;
     }
     operations
@@ -47,8 +50,8 @@ pub fn evaluate<A: BooleanAlgebra>(
     if elements.len() < needed {
         return Err(Refusal::MemoryShort);
     }
-    let definitions = script.definitions();
-    let operations = work_out(&definitions[0..needed], settings, elements);
-    let answer = operand_element(operand, settings, &elements[0..needed]);
+    let settings = Settings { elements: settings };
+    let operations = work_out(&script.definitions()[..needed], &settings, elements);
+    let answer = settings.operand_element(operand, &elements[..needed]);
     Ok((answer, operations))
 }

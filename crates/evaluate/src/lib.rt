@@ -2,6 +2,6 @@
 #![tactic(auto)]
 
 pub mod evaluation;
-mod lookup;
+mod settings;
 #[cfg(test)]
 mod tests;

@@ -14,16 +14,18 @@ fn works(part: u8) -> Operand {
     Operand::Works(Part(part))
 }
 
+/// A refusal that a test did not want, by its number.
+fn failed(refusal: Refusal) -> Fail {
+    Fail::new(refusal.number())
+}
+
 fn add(
     script: &mut Script,
     operator: Operator,
     first: Operand,
     second: Operand,
 ) -> Result<Operand, Fail> {
-    match script.combine(operator, first, second) {
-        Ok(operand) => Ok(operand),
-        Err(refusal) => Err(Fail::new(refusal.number())),
-    }
+    script.combine(operator, first, second).map_err(failed)
 }
 
 /// The six definitions of the worked table.
@@ -74,25 +76,20 @@ fn twice(bits: u64) -> Dual<Dual<SampledStates>> {
 
 /// The number of the refusal, and 0 where the call is accepted.
 fn refused<X: Drop>(answer: Result<X, Refusal>) -> u8 {
-    match answer {
-        Ok(_) => 0,
-        Err(refusal) => refusal.number(),
-    }
+    answer.err().map_or(0, |refusal| refusal.number())
 }
 
 #[test]
 fn the_worked_table(rt: HostRuntime) -> Result<(), Fail> {
     let mut script = Script::open(6);
     let operand = worked_table(&mut script)?;
-    let mut elements = [NONE; 7];
-    let Ok((answer, operations)) = evaluate(&script, operand, &sampled_settings(), &mut elements)
-    else {
-        return Err(Fail::new("evaluate"));
-    };
+    let settings = sampled_settings();
+    let mut done = [NONE; 7];
+    let (answer, operations) = evaluate(&script, operand, &settings, &mut done).map_err(failed)?;
     assert_eq!(rt; answer.bits, 7);
     assert_eq!(rt; operations, 6);
-    assert_eq!(rt; elements[5].bits, 7);
-    assert_eq!(rt; elements[6].bits, 0);
+    assert_eq!(rt; done[5].bits, 7);
+    assert_eq!(rt; done[6].bits, 0);
     Ok(())
 }
 
@@ -134,11 +131,7 @@ fn the_dual_of_the_dual(rt: HostRuntime) -> Result<(), Fail> {
         twice(0x6),
     ]);
     let mut elements = [twice(0); 6];
-    match evaluate(&script, operand, &settings, &mut elements) {
-        Ok((answer, _)) => {
-            assert_eq!(rt; answer.under.under.bits, 7);
-            Ok(())
-        },
-        Err(_) => Err(Fail::new("evaluate")),
-    }
+    let (answer, _) = evaluate(&script, operand, &settings, &mut elements).map_err(failed)?;
+    assert_eq!(rt; answer.under.under.bits, 7);
+    Ok(())
 }

@@ -6,12 +6,12 @@ ghost use Rattle.std.proofs.Common.{rules};
 
 use algebra::boolean::BooleanAlgebra;
 
-/// What is reported of a part. Its value is whether it is certain to be up, so that unknown and out are two elements of one value.
-#[derive(Clone, Copy)]
+/// What is reported of a part, the lowest first. Its value is whether it is certain to be up, so that unknown and out are two elements of one value.
+#[derive(Clone, Copy, PartialEq, Eq, PartialOrd, Ord)]
 pub enum Report {
-    Up,
-    Unknown,
     Out,
+    Unknown,
+    Up,
 }
 
 impl BooleanAlgebra for Report {
@@ -32,19 +32,11 @@ impl BooleanAlgebra for Report {
     }
 
     fn meet(self, other: Report) -> Report {
-        match (self, other) {
-            (Report::Up, other) => other,
-            (Report::Out, _) | (_, Report::Out) => Report::Out,
-            _ => Report::Unknown,
-        }
+        self.min(other)
     }
 
     fn join(self, other: Report) -> Report {
-        match (self, other) {
-            (Report::Out, other) => other,
-            (Report::Up, _) | (_, Report::Up) => Report::Up,
-            _ => Report::Unknown,
-        }
+        self.max(other)
     }
 
     fn complement(self) -> Report {
