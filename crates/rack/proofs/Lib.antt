@@ -1,2 +1,1 @@
 mod Apart
-pub mod Table

@@ -1,3 +1,4 @@
+pub mod Sign
 pub mod Rank
 pub mod Way
 pub mod Refusals

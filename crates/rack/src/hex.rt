@@ -27,11 +27,13 @@ pub fn hex_byte(n: u8) -> [u8; 2]
     [hex_digit(n / 16), hex_digit(n)]
 }
 
+// Kept: one function over the number of digits would need a loop, and these two are a line or three each.
 /// The four digits of a number.
 pub fn hex_word(n: u16) -> [u8; 4]
     ensures { result ≡ hex_word n }
 {
-    let [a, b] = hex_byte((n / 256) as u8);
-    let [c, d] = hex_byte((n % 256) as u8);
+    let [high, low] = n.to_be_bytes();
+    let [a, b] = hex_byte(high);
+    let [c, d] = hex_byte(low);
     [a, b, c, d]
 }

@@ -2,22 +2,22 @@ ghost use Rattle.std.specs.Prelude.{◌≡◌};
 ghost use Rattle.rack.specs.Refusals.{number_of, position_of, layer_of};
 
 /// A line of a text, counted from 1.
-#[derive(Clone, Copy, PartialEq)]
+#[derive(Clone, Copy, PartialEq, Eq)]
 pub struct LineNumber(pub usize);
 
 /// A byte of a line, counted from 1.
-#[derive(Clone, Copy, PartialEq)]
+#[derive(Clone, Copy, PartialEq, Eq)]
 pub struct ColumnNumber(pub usize);
 
 /// Where in a text something stands.
-#[derive(Clone, Copy, PartialEq)]
+#[derive(Clone, Copy, PartialEq, Eq)]
 pub struct Position {
     pub line: LineNumber,
     pub column: ColumnNumber,
 }
 
 /// The layer of reading that tells a refusal: the bytes of a line, the frame that they form, or the table that it goes into.
-#[derive(Clone, Copy, PartialEq)]
+#[derive(Clone, Copy, PartialEq, Eq)]
 pub enum Layer {
     Line,
     Frame,
@@ -25,7 +25,7 @@ pub enum Layer {
 }
 
 /// Why a call is refused. The nine that reading tells have a position in the text.
-#[derive(Clone, Copy, PartialEq)]
+#[derive(Clone, Copy, PartialEq, Eq)]
 pub enum Refusal {
     /// 1: a line is empty, of odd length, or longer than 100 bytes.
     LineLength(Position),

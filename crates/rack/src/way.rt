@@ -4,9 +4,10 @@ ghost use Rattle.rack.specs.Way.{way_of};
 use crate::part::Literal;
 
 /// The number of a way in its table, from 1, in the order entered.
-#[derive(Clone, Copy, PartialEq)]
+#[derive(Clone, Copy, PartialEq, Eq)]
 pub struct WayNumber(pub u16);
 
+// Kept: places and a count, since the library uses no heap: a caller lends records of one fixed size.
 /// A record that a caller lends for one way: the literals in the first `count` places; the places beyond are open.
 #[derive(Clone, Copy)]
 pub struct WayRecord {

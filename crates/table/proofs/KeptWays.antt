@@ -1,14 +1,15 @@
 -- Literals and ways are the same exactly where they are equal, and one turn of each loop over them.
-use Rattle.std.proofs.Common.{◌≡◌, ℕ, zero, suc, ◌+◌, ◌-◌, ◌<◌, ◌≤◌, Bool, true, false, cond, ◌&&◌, ◌||◌, List, [], ◌∷◌, ◌++◌, length, get_or, take, drop, is_some, Some, None, Decides, Option, sym, refl, ap, ◌∙◌, arith, MatchOption}
-use Rattle.std.proofs.lemmas.List.{at_drop_more, at_drop_all, map_more, take_rest}
-use Rattle.std.proofs.lemmas.Bool.{and_right}
-use Rattle.std.proofs.lemmas.Bool.Decides.{Decides-and, Decides-eqb, Decides-like}
+use Rattle.std.proofs.Common.{◌≡◌, ℕ, zero, suc, ◌+◌, ◌<◌, ◌≤◌, Bool, true, false, cond, ◌||◌, List, [], ◌∷◌, ◌++◌, length, get_or, take, drop, Decides, sym, refl, ap, ◌∙◌, arith}
+use Rattle.std.proofs.lemmas.List.{at_drop_more, at_drop_all, map_more}
+use Rattle.std.proofs.lemmas.Slice.Eq.{slice_eq-Decides}
+use Rattle.std.specs.Cmp.Lexicographic.{pointwise}
+use Rattle.std.specs.List.{list_any}
+use Rattle.std.proofs.lemmas.Bool.Decides.{Decides-and, Decides-eqb, Decides-like, same_from_decides}
 use Rattle.rack.specs.declared.part.Literal.{Literal}
 use Rattle.rack.specs.declared.part.Sign.{Sign}
 use Rattle.rack.specs.declared.part.Sign.TheVariants.{Works, Out}
 use Rattle.rack.specs.declared.way.WayRecord.{WayRecord}
-use Rattle.rack.specs.First.{FirstAt, Nowhere}
-use Rattle.rack.specs.Rank.{sign_code}
+use Rattle.rack.specs.Sign.{sign_code, turned}
 use Rattle.rack.specs.Way.{Way, way_of}
 use Rattle.table.specs.Kept.{same_literal, holds, opposed, contradictory, same_way, among, keeps, kept_after, ways_of}
 
@@ -36,69 +37,55 @@ decides_way (l ∷ w) (h ∷ v) =
     Decides-like _ (λ e i. e.0 i ∷ e.1 i) (λ e. (cc, cc))
     (Decides-and _ _ (decides_literal l h) (decides_way w v))
 
--- two ways from place i on
-pub longer : (w v : Way) → (length w ≡ length v → ⊥) → same_way w v ≡ false
-longer [] [] ne = absurd (ne refl)
-longer [] (h ∷ v) ne = refl
-longer (l ∷ w) [] ne = refl
-longer (l ∷ w) (h ∷ v) ne = and_right (same_literal l h) (same_way w v) (longer w v (λ e. ne (omega arith)))
+-- what `==` says of a literal in a way, and of two ways, where it decides literals
+pub held_by : (t : Literal → Bool) (h : Literal) → ((l : Literal) → Decides (t l) (l ≡ h)) → (w : Way) → list_any t w ≡ holds h w
+held_by t h d [] = refl
+held_by t h d (l ∷ w) = λ i. same_from_decides (t l) (same_literal l h) (d l) (decides_literal l h) i || held_by t h d w i
 
-module _ (w v : Way) (i : ℕ) (d e : Literal) (lt : i < length w) (long : length w ≡ length v) where
-  rest : same_way (drop i w) (drop i v) ≡ (same_literal (get_or w i d) (get_or v i e) && same_way (drop (i + 1) w) (drop (i + 1) v))
-  rest = at_drop_more (λ s. same_way s (drop i v)) w i d lt ∙ at_drop_more (same_way (get_or w i d ∷ drop (i + 1) w)) v i e (omega arith)
+pub alike : {E : Literal → Literal → Bool} → ((l h : Literal) → Decides (E l h) (l ≡ h)) → (w v : Way) (r : Bool) → r ≡ pointwise E w v → r ≡ same_way w v
+alike d w v r e = same_from_decides r (same_way w v) (slice_eq-Decides d w v r e) (decides_way w v)
 
-  pub same_there : get_or w i d ≡ get_or v i e → same_way (drop i w) (drop i v) ≡ same_way (drop (i + 1) w) (drop (i + 1) v)
-  same_there p = rest ∙ ap (λ t. t && same_way (drop (i + 1) w) (drop (i + 1) v)) ((decides_literal (get_or w i d) (get_or v i e)).1 p)
+pub among_any : (w : Way) (rs : List WayRecord) → list_any (λ r. same_way (way_of r) w) rs ≡ among w (ways_of rs)
+among_any w [] = refl
+among_any w (r ∷ rs) = ap (λ t. same_way (way_of r) w || t) (among_any w rs)
 
-  pub other_there : (get_or w i d ≡ get_or v i e → ⊥) → same_way (drop i w) (drop i v) ≡ false
-  other_there ne = rest ∙ ap (λ t. t && same_way (drop (i + 1) w) (drop (i + 1) v)) (other (get_or w i d) (get_or v i e) ne)
+-- a literal and its opposite differ, and are each other's opposite
+not_opposed : (l : Literal) → same_literal l (opposed l) ≡ false
+not_opposed l = other l (opposed l) (λ e. differ l.sign (ap (λ x. x.sign) e))
+  where
+    differ : (s : Sign) → s ≡ turned s → ⊥
+    differ Works e = cc
+    differ Out e = cc
 
-pub same_all : (w v : Way) (i : ℕ) → length w ≤ i → length w ≡ length v → same_way (drop i w) (drop i v) ≡ true
-same_all w v i h long = at_drop_all (λ s. same_way s (drop i v)) w i h ∙ at_drop_all (same_way []) v i (omega arith)
+turned_twice : (s : Sign) → turned (turned s) ≡ s
+turned_twice Works = refl
+turned_twice Out = refl
 
--- what the finder says of a way
-pub held : (w : Way) (h : Literal) (i : ℕ) → FirstAt w h i → holds h w ≡ true
-held [] h i f = absurd (omega (arith, f.inside))
-held (l ∷ w) h zero f = ap (λ t. t || holds h w) ((decides_literal l h).1 f.here)
-held (l ∷ w) h (suc i) f =
-    ap (λ t. t || holds h w) (other l h (f.before 0 (omega arith)))
-    ∙ held w h i (record { inside = omega (arith, f.inside); here = f.here; before = λ k m. f.before (suc k) (omega arith) })
+opposed_back : (l h : Literal) → l ≡ opposed h → h ≡ opposed l
+opposed_back l h e = sym (ap opposed e ∙ (λ i. record { part = h.part; sign = turned_twice h.sign i }))
 
-pub unheld : (w : Way) (h : Literal) → Nowhere w h → holds h w ≡ false
-unheld [] h n = refl
-unheld (l ∷ w) h n = ap (λ t. t || holds h w) (other l h (n 0 (omega arith))) ∙ unheld w h (λ k m. n (suc k) (omega arith))
+opposed_turns : (l h : Literal) → same_literal l (opposed h) ≡ same_literal h (opposed l)
+opposed_turns l h =
+    same_from_decides _ _ (Decides-like _ (opposed_back l h) (opposed_back h l) (decides_literal l (opposed h))) (decides_literal h (opposed l))
 
--- what the finder answers of a way
-pub found_held : (w : Way) (h : Literal) (o : Option ℕ) → MatchOption o (Nowhere w h) (FirstAt w h) → is_some o ≡ holds h w
-found_held w h None n = sym (unheld w h n)
-found_held w h (Some i) f = sym (held w h i f)
+or_twice : (a b : Bool) → (a || (a || b)) ≡ (a || b)
+or_twice true b = refl
+or_twice false b = refl
 
--- h is the opposite of literal i, looked for behind it
-module _ (w : Way) (i : ℕ) (d h : Literal) (lt : i < length w) (e : h ≡ opposed (get_or w i d)) where
-  abbrev behind : Way
-  behind = take (length w - (i + 1)) (drop (i + 1) w)
+or_swap : (a b c d : Bool) → ((a || b) || (c || d)) ≡ ((a || c) || (b || d))
+or_swap a b c d = grind arith
 
-  step : (t : Bool) → t ≡ holds h behind → contradictory (drop i w) ≡ (t || contradictory (drop (i + 1) w))
-  step t f =
-      at_drop_more contradictory w i d lt
-      ∙ ap (λ s. s || contradictory (drop (i + 1) w)) (ap (λ l. holds l (drop (i + 1) w)) (sym e) ∙ ap (holds h) (sym (take_rest w (i + 1))) ∙ sym f)
+-- the opposite of a literal may be looked for in the whole way, since the order of the two plays no part
+opposed_in : (l : Literal) (w v : Way) → list_any (λ m. holds (opposed m) (l ∷ v)) w ≡ (holds (opposed l) w || list_any (λ m. holds (opposed m) v) w)
+opposed_in l [] v = refl
+opposed_in l (m ∷ w) v = (λ i. (opposed_turns l m i || holds (opposed m) v) || opposed_in l w v i) ∙ or_swap (same_literal m (opposed l)) (holds (opposed m) v) (holds (opposed l) w) (list_any (λ h. holds (opposed h) v) w)
 
-  pub clash : true ≡ holds h behind → contradictory (drop i w) ≡ true
-  clash f = step true f
-
-  pub no_clash : false ≡ holds h behind → contradictory (drop i w) ≡ contradictory (drop (i + 1) w)
-  no_clash f = step false f
-
--- v is the way of record i
-module _ (w v : Way) (rs : List WayRecord) (i : ℕ) (d : WayRecord) (lt : i < length rs) (e : v ≡ way_of (get_or rs i d)) where
-  next : (t : Bool) → t ≡ same_way v w → among w (ways_of (drop i rs)) ≡ (t || among w (ways_of (drop (i + 1) rs)))
-  next t f = at_drop_more (λ s. among w (ways_of s)) rs i d lt ∙ ap (λ s. s || among w (ways_of (drop (i + 1) rs))) (ap (λ u. same_way u w) (sym e) ∙ sym f)
-
-  pub among_here : true ≡ same_way v w → among w (ways_of (drop i rs)) ≡ true
-  among_here f = next true f
-
-  pub among_later : false ≡ same_way v w → among w (ways_of (drop i rs)) ≡ among w (ways_of (drop (i + 1) rs))
-  among_later f = next false f
+pub contradictory_any : (w : Way) → list_any (λ l. holds (opposed l) w) w ≡ contradictory w
+contradictory_any [] = refl
+contradictory_any (l ∷ w) =
+    (λ i. (not_opposed l i || holds (opposed l) w) || opposed_in l w w i)
+    ∙ or_twice (holds (opposed l) w) (list_any (λ h. holds (opposed h) w) w)
+    ∙ ap (λ t. holds (opposed l) w || t) (contradictory_any w)
 
 -- the kept ways from record i on
 module _ (rs : List WayRecord) (i : ℕ) (d : WayRecord) (lt : i < length rs) where

@@ -2,10 +2,8 @@
 -- The ways are any lists of literals, sorted or not.
 use Rattle.std.specs.Prelude.{ℕ, ◌+◌, Bool, true, false, cond, not, ◌&&◌, ◌||◌, List, [], ◌∷◌, ◌++◌, map, length, ◌==◌}
 use Rattle.rack.specs.declared.part.Literal.{Literal}
-use Rattle.rack.specs.declared.part.Sign.{Sign}
-use Rattle.rack.specs.declared.part.Sign.TheVariants.{Works, Out}
 use Rattle.rack.specs.declared.way.WayRecord.{WayRecord}
-use Rattle.rack.specs.Rank.{sign_code}
+use Rattle.rack.specs.Sign.{sign_code, turned}
 use Rattle.rack.specs.Way.{Way, way_of}
 
 -- part and sign agree
@@ -15,10 +13,6 @@ same_literal l h = l.part.0 == h.part.0 && sign_code l.sign == sign_code h.sign
 abbrev pub holds : Literal → Way → Bool
 holds h [] = false
 holds h (l ∷ w) = same_literal l h || holds h w
-
-abbrev pub turned : Sign → Sign
-turned Works = Out
-turned Out = Works
 
 -- the same part with the other sign
 abbrev pub opposed : Literal → Literal

@@ -1,16 +1,15 @@
 -- The calls of a table: what each answers, which record it writes, and what stays.
-use Rattle.std.specs.Prelude.{◌≡◌, ℕ, ◌+◌, ◌<◌, ◌≤◌, true, List, [], ◌∷◌, length, take, drop, IfErr, Some, None, Ok, Err, Option, Result, MatchResult, slice_set}
-use Rattle.std.specs.Borrow.{Bor}
+use Rattle.std.specs.Prelude.{◌≡◌, ℕ, ◌+◌, ◌<◌, List, length, take, drop, IfErr, Ok, Err, Result, MatchResult, slice_set}
 use Rattle.rack.specs.declared.refusal.Refusal.{Refusal}
 use Rattle.rack.specs.declared.way.WayNumber.{WayNumber}
 use Rattle.rack.specs.declared.way.WayRecord.{WayRecord}
 use Rattle.rack.specs.Way.{Way, way_of}
-use Rattle.text.specs.Frames.{told, frame_at, start_at}
+use Rattle.text.specs.Frames.{start_at}
 use Rattle.table.specs.declared.table.OpenTable.{OpenTable}
 use Rattle.table.specs.declared.table.Table.{Table}
 use Rattle.table.specs.declared.table.Unread.{Unread}
 use Rattle.table.specs.Kept.{ways_of}
-use Rattle.table.specs.Reading.{due_line, entering, closing, Reading, Reading.closed, Reading.stopped, read_body, is_end}
+use Rattle.table.specs.Reading.{entering, closing, Reading, Reading.closed, Reading.stopped, read_body}
 
 -- an open table stays as it was, over the same records with the same contents
 pub record Stays (was after : OpenTable) : Type 0 where
@@ -46,13 +45,15 @@ pub record Unentered (was after : OpenTable) (bs : List ℕ) (e : Refusal) : Typ
 abbrev pub Entering : OpenTable → OpenTable → List ℕ → Result WayNumber Refusal → Type 0
 Entering was after bs r = MatchResult r (Entered was after bs) (Unentered was after bs)
 
--- close: the ways entered, of the records as they are; a refused close gives the table back as it was
-abbrev pub close_refusal : OpenTable → List ℕ → Option Refusal
-close_refusal t bs = told (closing t.entered bs)
-
-pub record Closed (was : OpenTable) (t : Table) : Type 0 where
+-- close, where it is accepted: the table has the ways entered; a refused close gives the open table back as it was
+pub record Closed (was : OpenTable) (bs : List ℕ) (t : Table) : Type 0 where
+  pub line : closing was.entered bs ≡ Ok tt
   pub number : t.number ≡ was.number
   pub contents : t.ways.now ≡ take was.entered was.records.now
+
+pub record Unclosed (was : OpenTable) (bs : List ℕ) (p : Refusal × OpenTable) : Type 0 where
+  pub line : closing was.entered bs ≡ Err p.0
+  pub stays : Stays was p.1
 
 -- what a reading hands back
 abbrev pub read_table : Table → Reading
@@ -72,7 +73,6 @@ ways_so_far t = ways_of (take t.entered t.records.now)
 -- ways were entered behind those that were there, and the records behind them are as before
 pub record Filled (was after : OpenTable) : Type 0 where
   pub number : after.number ≡ was.number
-  pub within : after.entered ≤ length after.records.now
   pub long : length after.records.now ≡ length was.records.now
   pub behind : drop after.entered after.records.now ≡ drop after.entered was.records.now
 
@@ -80,11 +80,9 @@ pub record Filled (was after : OpenTable) : Type 0 where
 abbrev pub body_from : OpenTable → List (List ℕ) → Reading
 body_from t ls = read_body (length t.records.now) t.number.0 (ways_so_far t) ls
 
--- the lines up to an end, or to the text's end, or to a refusal, were entered; `left` are the lines behind
-abbrev pub UpToEnd : OpenTable → OpenTable → List (List ℕ) → List (List ℕ) → Result (Option (Bor (List ℕ))) Refusal → Type 0
-UpToEnd was after ls left (Ok None) = body_from was ls ≡ body_from after []
-UpToEnd was after ls left (Ok (Some l)) = (body_from was ls ≡ body_from after (l.now ∷ left)) × (is_end (frame_at (due_line after.entered) l.now) ≡ true)
-UpToEnd was after ls left (Err e) = body_from was ls ≡ stopped e (ways_so_far after)
+-- the lines after the start were entered up to the end, or to a refusal
+abbrev pub Filling : OpenTable → List (List ℕ) → OpenTable → Result Unit Refusal → Type 0
+Filling was ls after r = MatchResult r (λ _. body_from was ls ≡ closed after.number.0 (ways_so_far after)) (λ e. body_from was ls ≡ stopped e (ways_so_far after))
 
 -- a reading that is refused leaves the records behind the ways entered as they were lent
 abbrev pub LeftBehind : List WayRecord → Result Table Unread → Type 0

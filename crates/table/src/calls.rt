@@ -1,19 +1,22 @@
-ghost use Rattle.std.specs.Prelude.{◌≡◌, ◌+◌, length, Some, None, MatchResult};
-ghost use Rattle.table.specs.Reading.{due_line};
-ghost use Rattle.table.specs.Tables.{Stays, Opened, Unopened, Entering, close_refusal, Closed};
+ghost use Rattle.std.specs.Prelude.{◌≡◌, take, MatchResult};
+ghost use Rattle.table.specs.Reading.{due_line, closing};
+ghost use Rattle.table.specs.Tables.{Opened, Unopened, Entering, Closed, Unclosed};
 
 use crate::table::{MOST_WAYS, OpenTable, Table, TableNumber, Unread};
 use rack::refusal::{LineNumber, Refusal};
 use rack::way::{WayNumber, WayRecord};
-use text::digits::position;
-use text::frame::{end_of, start_of, way_of};
+use text::line::Line;
 
 impl<'a> OpenTable<'a> {
     /// Opens a table by its start line, without its 0A. Refuses what is no start line, and hands the records back.
     pub fn open(records: &'a mut [WayRecord], line: &[u8]) -> Result<OpenTable<'a>, Unread<'a>>
         ensures { MatchResult result (Opened records.old line.now) (Unopened records.old line.now) }
     {
-        match start_of(line, LineNumber(1)) {
+        let line = Line {
+            number: LineNumber(1),
+            bytes: line,
+        };
+        match line.start() {
             Ok(number) => Ok(OpenTable {
                 number: TableNumber(number),
                 entered: 0,
@@ -38,7 +41,16 @@ impl<'a> OpenTable<'a> {
     pub fn line(&self) -> LineNumber
         ensures { result.0 ≡ due_line self.now.entered }
     {
-        LineNumber(self.entered as usize + 2)
+        LineNumber(usize::from(self.entered) + 2)
+    }
+
+    /// The bytes as the line that is due.
+    pub(crate) fn due<'t>(&self, bytes: &'t [u8]) -> Line<'t>
+        ensures number { result.number.0 ≡ due_line self.now.entered }
+        ensures bytes { result.bytes.now ≡ bytes.now }
+    {
+        let number = self.line();
+        Line { number, bytes }
     }
 
     /// Enters the way of a way line, without its 0A, and answers its number. Refuses what is no way line, and a way that finds no record
@@ -47,53 +59,52 @@ impl<'a> OpenTable<'a> {
         ensures answer { Entering self.old self.new line.now result }
         ensures lender { self.new.records.ghost_name ≡ self.old.records.ghost_name }
     {
-        let way = match way_of(line, self.line()) {
-            Ok(way) => way,
-            Err(refusal) => return Err(refusal),
-        };
-        let n = self.entered as usize;
+        let line = self.due(line);
+        let way = line.way()?;
+        let n = usize::from(self.entered);
         if n >= self.records.len() || self.entered >= MOST_WAYS {
-            return Err(Refusal::TableFull(position(self.line(), 1)));
+            return Err(Refusal::TableFull(line.at(1)));
         }
         self.records[n] = way;
         self.entered += 1;
         Ok(WayNumber(self.entered))
     }
 
-    /// Why a close by this line would be refused, if it would.
-    pub fn close_refusal(&self, line: &[u8]) -> Option<Refusal>
-        ensures { result ≡ close_refusal self.now line.now }
+    /// Whether a close by this line would be accepted; the refusal, if not.
+    pub fn check_close(&self, line: &[u8]) -> Result<(), Refusal>
+        ensures { result ≡ closing self.now.entered line.now }
     {
-        match end_of(line, self.line()) {
-            Err(refusal) => Some(refusal),
-            Ok(count) => {
-                if count == self.entered {
-                    None
-                } else {
-                    Some(Refusal::WrongCount(position(self.line(), 3)))
-                }
-            }
+        let line = self.due(line);
+        if line.end()? != self.entered {
+            return Err(Refusal::WrongCount(line.at(3)));
         }
+        Ok(())
     }
 
     /// Closes the table by its end line, without its 0A. Refuses what is no end line and a wrong count (9), and gives the table back.
     pub fn close(self, line: &[u8]) -> Result<Table<'a>, (Refusal, OpenTable<'a>)>
-        ensures due { MatchResult result (λ _. close_refusal self.entry line.now ≡ None) (λ p. close_refusal self.entry line.now ≡ Some p.0) }
-        ensures left { MatchResult result (Closed self.entry) (λ p. Stays self.entry p.1) }
+        ensures { MatchResult result (Closed self.entry line.now) (Unclosed self.entry line.now) }
     {
-        if let Some(refusal) = self.close_refusal(line) {
-            return Err((refusal, self));
+        match self.check_close(line) {
+            Ok(()) => Ok(self.into_table()),
+            Err(refusal) => Err((refusal, self)),
         }
+    }
+
+    /// The table of the ways entered.
+    pub(crate) fn into_table(self) -> Table<'a>
+        ensures number { result.number ≡ self.entry.number }
+        ensures contents { result.ways.now ≡ take self.entry.entered self.entry.records.now }
+    {
         let OpenTable {
             number,
             entered,
             records,
         } = self;
-        let n = (entered as usize).min(records.len());
-        Ok(Table {
+        Table {
             number,
-            ways: &records[0..n],
-        })
+            ways: &records[..usize::from(entered)],
+        }
     }
 
     /// Gives the table up after a refusal, and the records back.

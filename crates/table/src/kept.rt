@@ -1,70 +1,38 @@
 ghost use Rattle.std.specs.Prelude.{◌≡◌};
-ghost use Rattle.table.specs.Kept.{holds, opposed, contradictory, same_way, among, keeps, ways_of};
+ghost use Rattle.table.specs.Kept.{holds, opposed, contradictory, among, keeps, ways_of};
 
-use rack::find::{Same, find_first};
-use rack::part::{Literal, Sign};
+use rack::part::Literal;
 use rack::way::WayRecord;
 
 /// The literal of the same part with the other sign.
-fn opposite(literal: Literal) -> Literal
-    ensures { result ≡ opposed literal }
+fn opposite(literal: &Literal) -> Literal
+    ensures { result ≡ opposed literal.now }
 {
-    match literal.sign {
-        Sign::Works => Literal {
-            part: literal.part,
-            sign: Sign::Out,
-        },
-        Sign::Out => Literal {
-            part: literal.part,
-            sign: Sign::Works,
-        },
+    Literal {
+        part: literal.part,
+        sign: !literal.sign,
     }
 }
 
 /// Whether a way holds a literal.
-fn is_held(way: &[Literal], literal: Literal) -> bool
-    ensures { result ≡ holds literal way.now }
+fn is_held(way: &[Literal], literal: &Literal) -> bool
+    ensures { result ≡ holds literal.now way.now }
 {
-    find_first(way, &literal).is_some()
-}
-
-/// Whether two ways have the same literals in the same order.
-fn is_same(way: &[Literal], other: &[Literal]) -> bool
-    ensures { result ≡ same_way way.now other.now }
-{
-    if way.len() != other.len() {
-        return false;
-    }
-    for (i, literal) in way.iter().enumerate() {
-        if !literal.same(&other[i]) {
-            return false;
-        }
-    }
-    true
+    way.contains(literal)
 }
 
 /// Whether a way holds some part both working and out.
 fn is_contradictory(way: &[Literal]) -> bool
     ensures { result ≡ contradictory way.now }
 {
-    for (i, literal) in way.iter().enumerate() {
-        if is_held(&way[i + 1..], opposite(*literal)) {
-            return true;
-        }
-    }
-    false
+    way.iter().any(|literal| is_held(way, &opposite(literal)))
 }
 
 /// Whether some way of `earlier` equals `way`.
 fn is_among(way: &[Literal], earlier: &[WayRecord]) -> bool
     ensures { result ≡ among way.now (ways_of earlier.now) }
 {
-    for record in earlier {
-        if is_same(record.literals(), way) {
-            return true;
-        }
-    }
-    false
+    earlier.iter().any(|record| record.literals() == way)
 }
 
 /// Whether a way is kept, where `earlier` are the ways entered before it: it is not contradictory, and equals none of them.

@@ -1,3 +1,5 @@
+ghost use Rattle.std.specs.Prelude.{◌≤◌, length};
+
 use rack::refusal::Refusal;
 use rack::way::WayRecord;
 
@@ -14,6 +16,7 @@ pub struct OpenTable<'a> {
     pub(crate) number: TableNumber,
     pub(crate) entered: u16,
     pub(crate) records: &'a mut [WayRecord],
+    ghost within: { entered ≤ length records.now },
 }
 
 /// A closed table: its ways in the order entered. It lends the records on, so that nobody can alter them while it stands.

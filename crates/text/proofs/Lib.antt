@@ -1,2 +1,2 @@
-pub mod Cut
-pub mod Literals
+mod FirstLine
+pub mod Pairs

@@ -1,5 +1,5 @@
 -- The digits of a line, and the bytes that they stand for.
-use Rattle.std.specs.Prelude.{ℕ, ◌+◌, ◌*◌, List, [], ◌∷◌, Some, None, Option}
+use Rattle.std.specs.Prelude.{ℕ, ◌+◌, ◌*◌, List, [], ◌∷◌}
 use Rattle.std.specs.Option.{unwrap_or}
 use Rattle.rack.specs.Hex.{digit_of}
 
@@ -16,8 +16,3 @@ abbrev pub decoded : List ℕ → List ℕ
 decoded [] = []
 decoded (a ∷ []) = []
 decoded (a ∷ b ∷ cs) = byte_of a b ∷ decoded cs
-
--- the place of the first byte that is no digit, where the first has place n
-abbrev pub bad_from : ℕ → List ℕ → Option ℕ
-bad_from n [] = None
-bad_from n (b ∷ bs) = elim (digit_of b) [ Some d ↦ bad_from (n + 1) bs | None ↦ Some n ]

@@ -1,30 +1,23 @@
 -- Frames: what a line says, at its number in the text, or the first refusal in the order of the checks.
 -- 1: the line's length; 2: its digits; 3: its kind; 4: whether that is due; 5: whether the digits fit; 6: the signs; 7: the weights.
-use Rattle.std.specs.Prelude.{ℕ, ◌+◌, ◌*◌, ◌%◌, Bool, true, false, not, ◌&&◌, ◌||◌, List, [], ◌∷◌, length, drop, Some, None, Ok, Err, Option, Result, ◌==◌, nat_lt, slice_index}
+use Rattle.std.specs.Prelude.{ℕ, ◌+◌, ◌*◌, ◌%◌, Bool, not, ◌&&◌, ◌||◌, if◌then◌else◌, List, [], ◌∷◌, length, drop, Some, None, Ok, Err, Option, Result, ◌==◌, nat_lt, slice_index}
+use Rattle.std.specs.List.{position, zip}
+use Rattle.std.specs.Option.{is_none}
 use Rattle.rack.specs.declared.part.Literal.{Literal}
 use Rattle.rack.specs.declared.part.Sign.{Sign}
-use Rattle.rack.specs.declared.part.Sign.TheVariants.{Works, Out}
 use Rattle.rack.specs.declared.refusal.Position.{Position}
 use Rattle.rack.specs.declared.refusal.Refusal.{Refusal}
 use Rattle.rack.specs.declared.refusal.Refusal.TheVariants.{LineLength, NoDigit, UnknownKind, NotDue, Misfit, UnknownSign, NotRising}
+use Rattle.rack.specs.Hex.{digit_of}
 use Rattle.rack.specs.Rank.{rank_of, weight_of}
+use Rattle.rack.specs.Sign.{sign_of}
 use Rattle.rack.specs.Way.{Way}
-use Rattle.text.specs.Digits.{byte_of, decoded, bad_from}
-
--- the first test that holds decides
-abbrev pub choose : {X : Type 0} → Bool → X → X → X
-choose true x y = x
-choose false x y = y
+use Rattle.text.specs.Digits.{byte_of, decoded}
 
 -- an answer and then another; a refusal ends both
 abbrev pub followed : {X Y : Type 0} → Result X Refusal → (X → Result Y Refusal) → Result Y Refusal
 followed (Ok x) next = next x
 followed (Err e) next = Err e
-
--- the refusal of an answer, if it is one
-abbrev pub told : {X : Type 0} → Result X Refusal → Option Refusal
-told (Ok x) = None
-told (Err e) = Some e
 
 abbrev pub at : ℕ → ℕ → Position
 at line column = record { line = record { 0 = line }; column = record { 0 = column } }
@@ -33,13 +26,17 @@ at line column = record { line = record { 0 = line }; column = record { 0 = colu
 abbrev pub bad_length : ℕ → Bool
 bad_length n = n == 0 || (not (n % 2 == 0) || nat_lt 100 n)
 
-abbrev pub by_digits : ℕ → Option ℕ → Option Refusal
-by_digits line None = None
-by_digits line (Some i) = Some (NoDigit (at line (i + 1)))
+-- the place of the first byte that is no digit
+abbrev pub no_digit : List ℕ → Option ℕ
+no_digit bs = position (λ b. is_none (digit_of b)) bs
+
+abbrev pub by_digits : ℕ → Option ℕ → Result Unit Refusal
+by_digits line None = Ok tt
+by_digits line (Some i) = Err (NoDigit (at line (i + 1)))
 
 -- 1 and 2, which serve every kind of text
-abbrev pub line_refusal : ℕ → List ℕ → Option Refusal
-line_refusal line bs = choose (bad_length (length bs)) (Some (LineLength (at line 1))) (by_digits line (bad_from 0 bs))
+abbrev pub checked : ℕ → List ℕ → Result Unit Refusal
+checked line bs = (if bad_length (length bs) then Err (LineLength (at line 1)) else by_digits line (no_digit bs))
 
 -- a frame: where its digits after the kind begin, and those digits
 pub data Seen : Type 0 where
@@ -49,19 +46,15 @@ pub data Seen : Type 0 where
 
 -- by the bytes that the digits stand for, of which the first is the kind
 abbrev pub by_kind : ℕ → List ℕ → List ℕ → Result Seen Refusal
-by_kind line bs bytes =
-    choose (length bytes == 0) (Err (UnknownKind (at line 1)))
-    (choose (slice_index bytes 0 == 16) (Ok (start (at line 3) (drop 2 bs)))
-    (choose (slice_index bytes 0 == 32) (Ok (way (at line 3) (drop 2 bs)))
-    (choose (slice_index bytes 0 == 48) (Ok (end (at line 3) (drop 2 bs))) (Err (UnknownKind (at line 1))))))
-
-abbrev pub unless_refused : {X : Type 0} → Option Refusal → Result X Refusal → Result X Refusal
-unless_refused None x = x
-unless_refused (Some e) x = Err e
+by_kind line bs [] = Err (UnknownKind (at line 1))
+by_kind line bs (kind ∷ rest) =
+    (if kind == 16 then Ok (start (at line 3) (drop 2 bs))
+    else (if kind == 32 then Ok (way (at line 3) (drop 2 bs))
+    else (if kind == 48 then Ok (end (at line 3) (drop 2 bs)) else Err (UnknownKind (at line 1)))))
 
 -- 1, 2 and 3
 abbrev pub frame_at : ℕ → List ℕ → Result Seen Refusal
-frame_at line bs = unless_refused (line_refusal line bs) (by_kind line bs (decoded bs))
+frame_at line bs = followed (checked line bs) (λ _. by_kind line bs (decoded bs))
 
 abbrev pub not_due : {X : Type 0} → ℕ → Result X Refusal
 not_due line = Err (NotDue (at line 1))
@@ -71,7 +64,7 @@ misfit line = Err (Misfit (at line 1))
 
 -- four digits are a number
 abbrev pub word_at : ℕ → List ℕ → Result ℕ Refusal
-word_at line ds = choose (length ds == 4) (Ok (byte_of (slice_index ds 0) (slice_index ds 1) * 256 + byte_of (slice_index ds 2) (slice_index ds 3))) (misfit line)
+word_at line ds = (if length ds == 4 then Ok (byte_of (slice_index ds 0) (slice_index ds 1) * 256 + byte_of (slice_index ds 2) (slice_index ds 3)) else misfit line)
 
 -- a start, where one is due: the table's number
 abbrev pub start_of : ℕ → Seen → Result ℕ Refusal
@@ -90,9 +83,6 @@ end_of line (end p ds) = word_at line ds
 
 abbrev pub end_at : ℕ → List ℕ → Result ℕ Refusal
 end_at line bs = followed (frame_at line bs) (end_of line)
-
-abbrev pub sign_of : ℕ → Option Sign
-sign_of b = choose (b == 0) (Some Works) (choose (b == 1) (Some Out) None)
 
 -- literal k of a way stands in column 5 + 4k, its sign first
 abbrev pub place : ℕ → ℕ → Position
@@ -115,21 +105,23 @@ literals_from line k (s ∷ p ∷ bs) = elim (sign_of s) [ Some g ↦ before (li
 abbrev pub fits : List ℕ → Bool
 fits bytes = nat_lt 0 (length bytes) && length bytes == 1 + 2 * slice_index bytes 0
 
--- the place of the first literal whose weight is not above the one before, where the first has place k
-abbrev pub not_rising : (ℕ → ℕ) → ℕ → Way → Option ℕ
-not_rising rank k [] = None
-not_rising rank k (l ∷ []) = None
-not_rising rank k (l ∷ m ∷ w) = choose (nat_lt (weight_of rank l) (weight_of rank m)) (not_rising rank (k + 1) (m ∷ w)) (Some (k + 1))
+-- whether the weight of a literal is above that of the one before
+abbrev pub rises : (ℕ → ℕ) → Literal → Literal → Bool
+rises rank before l = nat_lt (weight_of rank before) (weight_of rank l)
+
+-- the place of the first literal behind which one does not rise
+abbrev pub not_rising : (ℕ → ℕ) → Way → Option ℕ
+not_rising rank w = position (λ p. not (rises rank p.0 p.1)) (zip w (drop 1 w))
 
 abbrev pub by_rise : ℕ → Way → Option ℕ → Result Way Refusal
 by_rise line w None = Ok w
-by_rise line w (Some k) = Err (NotRising (place line k))
+by_rise line w (Some k) = Err (NotRising (place line (k + 1)))
 
 abbrev pub rising : ℕ → Way → Result Way Refusal
-rising line w = by_rise line w (not_rising rank_of 0 w)
+rising line w = by_rise line w (not_rising rank_of w)
 
 abbrev pub literals_at : ℕ → List ℕ → Result Way Refusal
-literals_at line bytes = choose (fits bytes) (literals_from line 0 (drop 1 bytes)) (misfit line)
+literals_at line bytes = (if fits bytes then literals_from line 0 (drop 1 bytes) else misfit line)
 
 -- a way, where one is due: its literals
 abbrev pub way_of_frame : ℕ → Seen → Result Way Refusal

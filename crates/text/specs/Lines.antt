@@ -1,15 +1,14 @@
 -- A text cut at a byte, and cut into lines at its 0A bytes.
-use Rattle.std.specs.Prelude.{ℕ, true, false, cond, List, [], ◌∷◌, ◌==◌}
+use Rattle.std.specs.Prelude.{ℕ, true, false, List, [], ◌∷◌, ◌==◌}
+use Rattle.std.specs.List.{before_first, after_first}
 
 -- the bytes before the first that is m
 abbrev pub up_to : ℕ → List ℕ → List ℕ
-up_to m [] = []
-up_to m (b ∷ bs) = cond (b == m) [] (b ∷ up_to m bs)
+up_to m bs = before_first (λ b. b == m) bs
 
 -- the bytes behind it
 abbrev pub behind : ℕ → List ℕ → List ℕ
-behind m [] = []
-behind m (b ∷ bs) = cond (b == m) bs (behind m bs)
+behind m bs = after_first (λ b. b == m) bs
 
 -- one more byte at the front of the first line
 abbrev pub before : ℕ → List (List ℕ) → List (List ℕ)

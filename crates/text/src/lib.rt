@@ -3,4 +3,5 @@
 
 pub mod digits;
 pub mod frame;
+pub mod line;
 pub mod lines;

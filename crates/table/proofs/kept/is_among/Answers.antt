@@ -1,17 +1,15 @@
 -- Each record is compared by its literals.
-use Rattle.std.proofs.Common.{sym, ◌∙◌}
-use Rattle.std.proofs.lemmas.List.{at_drop_all}
-use Rattle.table.specs.Kept.{among, ways_of}
-use Rattle.table.proofs.KeptWays.{among_here, among_later}
+use Rattle.std.proofs.Common.{◌∙◌, rules}
+use borrow.Author.Tests.{tests}
+use Rattle.std.proofs.lemmas.Iterator.{YieldsList-from_slice}
+use Rattle.std.proofs.lemmas.Iterator.Search.{any_from_yields_List}
+use Rattle.rack.specs.declared.way.WayRecord.{WayRecord}
+use Rattle.rack.specs.Way.{way_of}
+use Rattle.table.specs.Kept.{same_way}
+use Rattle.table.proofs.KeptWays.{alike, among_any}
 use Rattle.table.proofs.kept.is_among.Goals as goal
 
-pub returns-then-is_same : goal.returns-then-is_same
-returns-then-is_same c =
-    sym (among_here c.args.way.now c.literals.result.now c.args.earlier.now c.loop-record.record-index _ c.loop-record-test.true c.literals.ensures.value c.if-is_same.ensures) ∙ c.loop-record.invariant
-
-pub loop-record-preserved : goal.loop-record-preserved
-loop-record-preserved c =
-    sym (among_later c.args.way.now c.literals.result.now c.args.earlier.now c.loop-record.record-index _ c.loop-record-test.true c.literals.ensures.value c.if-is_same.ensures) ∙ c.loop-record.invariant
-
 pub returns : goal.returns
-returns c = sym (at_drop_all (λ s. among c.args.way.now (ways_of s)) c.args.earlier.now c.loop-record.record-index c.loop-record-test.false) ∙ c.loop-record.invariant
+returns c =
+    any_from_yields_List (λ (r : WayRecord). same_way (way_of r) c.args.way.now) c.any.new.self _ c.any.result c.any.ensures.ran (YieldsList-from_slice c.args.earlier.now (cc)) (λ x b q k. search (rules, tests, alike))
+    ∙ among_any c.args.way.now c.args.earlier.now

@@ -1,15 +1,20 @@
--- The text is cut where its first mark stands.
-use Rattle.std.proofs.Common.{◌≡◌, ◌-◌, take, ap, ◌∙◌, arith}
-use Rattle.text.proofs.Cut.{front, back}
+-- The text is cut where its first mark stands, and not at all where it has none.
+use Rattle.std.proofs.Common.{ℕ, ◌+◌, ◌==◌, length, take, drop, sym, ap, ◌∙◌, arith, rules, take_all}
+use Rattle.std.proofs.lemmas.List.Sums.{position_or_len_is}
+use Rattle.std.proofs.lemmas.List.{take_rest, drop_all}
 use Rattle.text.proofs.lines.cut.Goals as goal
 
-pub returns : goal.returns
-returns c =
+pub returns-in-Some : goal.returns-in-Some
+returns-in-Some c =
     let text = c.args.text.now in
-    let n = c.place_of-end.result in
-    let found = c.place_of-end.ensures in
-    let from_start : n - 0 ≡ n = omega arith in
+    let found = position_or_len_is (λ (b : ℕ). b == c.args.mark) text c.in-Some.end 0 (search rules) (search rules) (search rules) in
+    record { front = ap (λ n. take n text) (sym found); back = take_rest text _ ∙ ap (λ n. drop (n + 1) text) (sym found) }
+
+pub returns-in-None : goal.returns-in-None
+returns-in-None c =
+    let text = c.args.text.now in
+    let none = position_or_len_is (λ (b : ℕ). b == c.args.mark) text (length text) 0 (omega arith) (search rules) (search rules) in
     record {
-      front = ap (λ k. take k text) from_start ∙ front c.args.mark text n found.within found.before found.found;
-      back = c.after.ensures ∙ back c.args.mark text n found.within found.before found.found;
+      front = sym (ap (λ n. take n text) none ∙ take_all (length text) text (omega arith));
+      back = sym (ap (λ n. drop (n + 1) text) none ∙ drop_all (length text + 1) text (omega arith));
     }
