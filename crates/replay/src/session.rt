@@ -30,7 +30,7 @@ impl<'a> Session<'a> {
     /// Answers all calls. There is no script before the first is opened.
     pub fn run(mut self) -> io::Result<Vec<u8>> {
         let mut script = None;
-        while let Some(line) = self.lines.next_line() {
+        while let Some(line) = self.lines.next() {
             match (Call::of(line), &mut script) {
                 (Some(Call::Open { limit }), _) => script = Some(self.answers.open(limit)?),
                 (Some(call), Some(script)) => self.answer(script, call)?,
@@ -67,7 +67,7 @@ impl<'a> Session<'a> {
         ensures { length (lines_of self.new.lines.rest.now) ≤ length (lines_of self.old.lines.rest.now) }
     {
         while !deliveries.is_empty()
-            && let Some(line) = self.lines.next_line()
+            && let Some(line) = self.lines.next()
         {
             match Call::of(line) {
                 Some(Call::Begin { operand, buffer }) if deliveries.len() < MOST_OPEN => {
