@@ -1,74 +1,205 @@
-use definitions::operand::Operand;
+ghost use Rattle.std.specs.Prelude.{◌<◌, vec_len};
+
+use crate::call::{Evaluation, Named, Translation};
+use crate::numbered::{Numbered, set_parts};
+use algebra::dual::Dual;
+use algebra::one_state::OneState;
+use algebra::sampled::SampledStates;
+use definitions::operand::{Definition, Operand};
+use delivery::delivery::Delivery;
 use delivery::line::operand_digits;
+use lives::evaluate;
 use preprocess::answer::refusal_line;
 use rack::refusal::Refusal;
+use rack::way::WayRecord;
+use script::script::Script;
 use std::alloc::{AllocError, Global};
+use std::io;
+use std::io::Write;
+use table::read::read;
+use working::record::WorkingRecord;
 
-/// The answers so far, and whether memory was wanting for one of them.
+/// More memory than any call can use.
+const ENOUGH: usize = 8192;
+
+/// The longest buffer that a line can ask for.
+const LONGEST: usize = 64;
+
+/// So many values for a call, of which no more than enough are made.
+fn lent<T: Copy>(heap: Global, value: T, many: usize) -> Result<Vec<T>, AllocError> {
+    vec![in heap; value; many.min(ENOUGH)]
+}
+
+/// An open delivery that is struck where it is let go.
+pub struct OpenDelivery<'s>(Delivery<'s>);
+
+impl Drop for OpenDelivery<'_> {
+    fn drop(self) {
+        let OpenDelivery(delivery) = self;
+        let _ = delivery.strike();
+    }
+}
+
+impl<'s> OpenDelivery<'s> {
+    fn into_inner(self) -> Delivery<'s> {
+        let OpenDelivery(delivery) = self;
+        delivery
+    }
+}
+
+/// The answers so far, and the heap that they and what calls are lent stand on.
 #[derive(Drop)]
 pub struct Answers {
-    bytes: Vec<u8>,
-    wanting: bool,
+    pub heap: Global,
+    pub bytes: Vec<u8>,
 }
 
 impl Answers {
     /// No answers yet.
     pub fn new(heap: Global) -> Answers {
         Answers {
+            heap,
             bytes: Vec::new(heap),
-            wanting: false,
         }
     }
 
-    /// All answers; an error where memory was wanting for one.
-    pub fn written(&self) -> Result<&[u8], AllocError> {
-        if self.wanting {
-            Err(AllocError)
-        } else {
-            Ok(self.bytes.as_slice())
+    /// Answers what is no call here.
+    pub fn unknown(&mut self) -> io::Result<()> {
+        self.bytes.write_all(b"?\n")
+    }
+
+    /// Answers what has to wait for the open deliveries.
+    pub fn busy(&mut self) -> io::Result<()> {
+        self.bytes.write_all(b"busy\n")
+    }
+
+    /// Answers by the line that tells a refusal.
+    fn tell(&mut self, refusal: Refusal) -> io::Result<()> {
+        self.bytes.write_all(&refusal_line(refusal))
+    }
+
+    /// Opens a script, and answers its limit as it counts.
+    pub fn open(&mut self, limit: usize) -> io::Result<Script> {
+        let script = Script::open(limit);
+        writeln!(self.bytes, "opened {}", script.limit())?;
+        Ok(script)
+    }
+
+    /// Reads a table and translates it, and answers the operand and the number of definitions added.
+    pub fn translate(&mut self, script: &mut Script, asked: Translation<'_>) -> io::Result<()> {
+        let text: Vec<u8> = asked
+            .table
+            .iter()
+            .map(|b| if *b == b'/' { b'\n' } else { *b })
+            .collect(self.heap)?;
+        let mut records = lent(self.heap, WayRecord::BLANK, asked.way_records)?;
+        let mut work = lent(self.heap, WorkingRecord::BLANK, asked.working_records)?;
+        let table = match read(&mut records, &text) {
+            Ok(table) => table,
+            Err(unread) => return self.tell(unread.refusal),
+        };
+        match script.translate(&table, asked.method, &mut work) {
+            Ok((operand, added)) => {
+                self.bytes.write_all(&operand_digits(operand))?;
+                writeln!(self.bytes, " {added}")
+            }
+            Err(refusal) => self.tell(refusal),
         }
     }
 
-    /// Notes that memory was wanting.
-    pub fn want(&mut self) {
-        self.wanting = true;
-    }
-
-    /// Adds bytes of an answer.
-    pub fn put(&mut self, bytes: &[u8]) {
-        if let Err(_) = self.bytes.extend_from_slice(bytes) {
-            self.wanting = true;
+    /// Combines two operands, and answers the operand.
+    pub fn combine(&mut self, script: &mut Script, asked: Definition) -> io::Result<()> {
+        match script.combine(asked.operator, asked.first, asked.second) {
+            Ok(operand) => {
+                self.bytes.write_all(&operand_digits(operand))?;
+                writeln!(self.bytes)
+            }
+            Err(refusal) => self.tell(refusal),
         }
     }
 
-    /// Adds a whole answer, with its 0A.
-    pub fn say(&mut self, answer: &[u8]) {
-        self.put(answer);
-        self.put(b"\n");
+    /// Evaluates over an algebra, and answers the value and the number of operations.
+    fn evaluate_over<A: Numbered>(
+        &mut self,
+        script: &Script,
+        asked: Evaluation<'_>,
+    ) -> io::Result<()> {
+        let mut settings = lent(self.heap, A::of(0), asked.settings)?;
+        set_parts(&mut settings, asked.values);
+        let mut elements = lent(self.heap, A::of(0), asked.elements)?;
+        match evaluate(script, asked.operand, &settings, &mut elements) {
+            Ok((element, operations)) => {
+                let bits = element.bits();
+                let digits = A::DIGITS;
+                writeln!(self.bytes, "{bits:0digits$X} {operations}")
+            }
+            Err(refusal) => self.tell(refusal),
+        }
     }
 
-    /// Adds the six digits of an operand.
-    pub fn put_operand(&mut self, operand: Operand) {
-        self.put(&operand_digits(operand));
+    /// Evaluates over the algebra that is named.
+    // Kept: each algebra's elements are a type of their own, so that a name picks an instance here, and can be no `dyn` value.
+    pub fn evaluate(&mut self, script: &Script, asked: Evaluation<'_>) -> io::Result<()> {
+        match asked.algebra {
+            Named::One => self.evaluate_over::<OneState>(script, asked),
+            Named::Drawn => self.evaluate_over::<SampledStates>(script, asked),
+            Named::Outage => self.evaluate_over::<Dual<SampledStates>>(script, asked),
+        }
     }
 
-    /// Adds a number in decimal.
-    pub fn put_decimal(&mut self, n: usize) {
-        let mut digits = [0u8; 20];
-        let mut left = n;
-        let mut at = 20;
-        for i in 0..20usize {
-            if left > 0 || i == 0 {
-                at = 19 - i;
-                digits[at] = b'0' + (left % 10) as u8;
-                left /= 10;
+    /// Begins a delivery behind the open ones, and answers its start line.
+    // Kept: `begin`, `next` and `close` each lend a buffer, since one helper over a closure would have to hand deliveries out beside the line.
+    pub fn begin<'s>(
+        &mut self,
+        script: &'s Script,
+        operand: Operand,
+        buffer: usize,
+        deliveries: &mut Vec<OpenDelivery<'s>>,
+    ) -> io::Result<()> {
+        let mut line = [0u8; LONGEST];
+        match Delivery::begin(script, operand, &mut line[..buffer.min(LONGEST)]) {
+            Ok((delivery, n)) => {
+                deliveries.push(OpenDelivery(delivery))?;
+                self.bytes.write_all(&line[..n])
+            }
+            Err(refusal) => self.tell(refusal),
+        }
+    }
+
+    /// Sends the next definition of a delivery.
+    pub fn next(&mut self, delivery: &mut OpenDelivery<'_>, buffer: usize) -> io::Result<()> {
+        let mut line = [0u8; LONGEST];
+        match delivery.0.next(&mut line[..buffer.min(LONGEST)]) {
+            Ok(n) => self.bytes.write_all(&line[..n]),
+            Err(refusal) => self.tell(refusal),
+        }
+    }
+
+    /// Closes an open delivery. Where that is refused it keeps its place.
+    pub fn close(
+        &mut self,
+        deliveries: &mut Vec<OpenDelivery<'_>>,
+        place: usize,
+        buffer: usize,
+    ) -> io::Result<()>
+        requires { place < vec_len deliveries.old }
+    {
+        let mut line = [0u8; LONGEST];
+        match deliveries
+            .remove(place)
+            .into_inner()
+            .close(&mut line[..buffer.min(LONGEST)])
+        {
+            Ok(n) => self.bytes.write_all(&line[..n]),
+            Err((refusal, delivery)) => {
+                deliveries.insert(place, OpenDelivery(delivery))?;
+                self.tell(refusal)
             }
         }
-        self.put(&digits[at..]);
     }
 
-    /// Adds the line that tells a refusal.
-    pub fn tell(&mut self, refusal: Refusal) {
-        self.put(&refusal_line(refusal));
+    /// Strikes a delivery, and answers how many definitions were sent.
+    pub fn strike(&mut self, delivery: OpenDelivery<'_>) -> io::Result<()> {
+        writeln!(self.bytes, "struck {}", delivery.into_inner().strike())
     }
 }

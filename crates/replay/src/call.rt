@@ -1,4 +1,4 @@
-use definitions::operand::{Operand, Operator};
+use definitions::operand::{Definition, Operand, Operator};
 use methods::translate::Method;
 use words::{Words, decimal, method, operand};
 
@@ -19,6 +19,17 @@ pub struct Translation<'a> {
     pub table: &'a [u8],
 }
 
+impl<'a> Translation<'a> {
+    fn of(words: &mut Words<'a>) -> Option<Translation<'a>> {
+        Some(Translation {
+            method: method(words.next_word())?,
+            way_records: decimal(words.next_word())?,
+            working_records: decimal(words.next_word())?,
+            table: words.next_word(),
+        })
+    }
+}
+
 /// An evaluation: its algebra and operand, how many settings and elements it is lent, and the settings that are named.
 #[derive(Clone, Copy)]
 pub struct Evaluation<'a> {
@@ -29,82 +40,81 @@ pub struct Evaluation<'a> {
     pub values: &'a [u8],
 }
 
-/// One call, with what it is handed. A delivery is named by its place, from 1, and a buffer by its length.
+impl<'a> Evaluation<'a> {
+    fn of(words: &mut Words<'a>) -> Option<Evaluation<'a>> {
+        Some(Evaluation {
+            algebra: match words.next_word() {
+                b"one" => Named::One,
+                b"drawn" => Named::Drawn,
+                b"outage" => Named::Outage,
+                _ => return None,
+            },
+            operand: operand(words.next_word())?,
+            settings: decimal(words.next_word())?,
+            elements: decimal(words.next_word())?,
+            values: words.rest(),
+        })
+    }
+}
+
+/// One call, with what it is handed. A delivery is named by its place among the open ones, and a buffer by its length.
 #[derive(Clone, Copy)]
 pub enum Call<'a> {
-    Open(usize),
+    Open { limit: usize },
     Translate(Translation<'a>),
-    Combine(Operator, Operand, Operand),
+    Combine(Definition),
     Evaluate(Evaluation<'a>),
-    Begin(Operand, usize),
-    Next(usize, usize),
-    Close(usize, usize),
-    Strike(usize),
+    Begin { operand: Operand, buffer: usize },
+    Next { place: usize, buffer: usize },
+    Close { place: usize, buffer: usize },
+    Strike { place: usize },
 }
 
-fn translation_of<'a>(words: &mut Words<'a>) -> Option<Call<'a>> {
-    let method = method(words.next_word())?;
-    let way_records = decimal(words.next_word())?;
-    let working_records = decimal(words.next_word())?;
-    Some(Call::Translate(Translation {
-        method,
-        way_records,
-        working_records,
-        table: words.next_word(),
-    }))
+/// The meet or join that is asked for.
+fn combination(words: &mut Words<'_>) -> Option<Definition> {
+    Some(Definition {
+        operator: match words.next_word() {
+            b"meet" => Operator::Meet,
+            b"join" => Operator::Join,
+            _ => return None,
+        },
+        first: operand(words.next_word())?,
+        second: operand(words.next_word())?,
+    })
 }
 
-fn combination_of<'a>(words: &mut Words<'a>) -> Option<Call<'a>> {
-    let operator = match words.next_word() {
-        b"meet" => Operator::Meet,
-        b"join" => Operator::Join,
-        _ => return None,
-    };
-    let first = operand(words.next_word())?;
-    let second = operand(words.next_word())?;
-    Some(Call::Combine(operator, first, second))
+/// A place among the open deliveries, which a line counts from 1.
+fn place(words: &mut Words<'_>) -> Option<usize> {
+    decimal(words.next_word())?.checked_sub(1)
 }
 
-fn evaluation_of<'a>(words: &mut Words<'a>) -> Option<Call<'a>> {
-    let algebra = match words.next_word() {
-        b"one" => Named::One,
-        b"drawn" => Named::Drawn,
-        b"outage" => Named::Outage,
-        _ => return None,
-    };
-    let operand = operand(words.next_word())?;
-    let settings = decimal(words.next_word())?;
-    let elements = decimal(words.next_word())?;
-    Some(Call::Evaluate(Evaluation {
-        algebra,
-        operand,
-        settings,
-        elements,
-        values: words.rest(),
-    }))
-}
-
-/// The call of a line; none where the line is no call.
-pub fn call_of<'a>(line: &'a [u8]) -> Option<Call<'a>> {
-    let mut words = Words::new(line);
-    match words.next_word() {
-        b"open" => Some(Call::Open(decimal(words.next_word())?)),
-        b"translate" => translation_of(&mut words),
-        b"combine" => combination_of(&mut words),
-        b"evaluate" => evaluation_of(&mut words),
-        b"begin" => {
-            let operand = operand(words.next_word())?;
-            Some(Call::Begin(operand, decimal(words.next_word())?))
-        }
-        b"next" => {
-            let place = decimal(words.next_word())?;
-            Some(Call::Next(place, decimal(words.next_word())?))
-        }
-        b"close" => {
-            let place = decimal(words.next_word())?;
-            Some(Call::Close(place, decimal(words.next_word())?))
-        }
-        b"strike" => Some(Call::Strike(decimal(words.next_word())?)),
-        _ => None,
+impl<'a> Call<'a> {
+    /// The call of a line; none where the line is no call.
+    pub fn of(line: &'a [u8]) -> Option<Call<'a>> {
+        let mut words = Words::new(line);
+        Some(match words.next_word() {
+            b"open" => Call::Open {
+                limit: decimal(words.next_word())?,
+            },
+            b"translate" => Call::Translate(Translation::of(&mut words)?),
+            b"combine" => Call::Combine(combination(&mut words)?),
+            b"evaluate" => Call::Evaluate(Evaluation::of(&mut words)?),
+            b"begin" => Call::Begin {
+                operand: operand(words.next_word())?,
+                buffer: decimal(words.next_word())?,
+            },
+            b"next" => Call::Next {
+                place: place(&mut words)?,
+                buffer: decimal(words.next_word())?,
+            },
+            b"close" => Call::Close {
+                place: place(&mut words)?,
+                buffer: decimal(words.next_word())?,
+            },
+            b"strike" => Call::Strike {
+                place: place(&mut words)?,
+            },
+            _ => return None,
+        })
     }
 }

@@ -3,20 +3,16 @@
 
 mod answers;
 mod call;
-mod memory;
+mod numbered;
 mod session;
 
-use answers::Answers;
-use session::idle;
+use session::Session;
 use std::io;
 use std::io::{Read, Write};
-use text::lines::Lines;
 
 fn main(rt: HostRuntime) -> io::Result<()> {
     let mut input = Vec::new(rt.alloc());
     rt.stdin().read_to_end(&mut input)?;
-    let mut answers = Answers::new(rt.alloc());
-    let mut lines = Lines::new(input.as_slice());
-    idle(rt.alloc(), &mut lines, &mut answers);
-    rt.stdout().write_all(answers.written()?)
+    let answers = Session::new(rt.alloc(), &input).run()?;
+    rt.stdout().write_all(&answers)
 }

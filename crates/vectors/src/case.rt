@@ -13,19 +13,15 @@ pub struct Case<'a> {
 
 impl<'a> Case<'a> {
     /// The case of a line; none where the line is no case. A text of `-` is the empty text.
+    // Kept: a `TryFrom` would want an error type, and nothing is said of a line that is no case.
     pub fn of(line: &'a [u8]) -> Option<Case<'a>> {
         let mut words = Words::new(line);
-        let method = method(words.next_word())?;
-        let limit = decimal(words.next_word())?;
-        let way_records = decimal(words.next_word())?;
-        let working_records = decimal(words.next_word())?;
-        let text = words.next_word();
         Some(Case {
-            method,
-            limit,
-            way_records,
-            working_records,
-            text,
+            method: method(words.next_word())?,
+            limit: decimal(words.next_word())?,
+            way_records: decimal(words.next_word())?,
+            working_records: decimal(words.next_word())?,
+            text: words.next_word(),
         })
     }
 }

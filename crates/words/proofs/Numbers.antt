@@ -1,70 +1,55 @@
--- Numbers digit by digit: the next digit comes off the digits that are left, and so many hexadecimal digits stand for less than their
--- power of 16.
-use Rattle.std.proofs.Common.{◌≡◌, ℕ, zero, suc, ◌+◌, ◌-◌, ◌*◌, ◌<◌, ◌≤◌, min, Bool, true, false, cond, ◌&&◌, leb, List, [], ◌∷◌, length, get_or, drop, Some, None, Option, sym, refl, ap, ◌∙◌, arith}
-use Rattle.std.proofs.lemmas.Bool.{ne_eqb, leb-true, le-ltb, and_parts}
-use Rattle.std.proofs.lemmas.List.{at_drop_more, at_drop_all}
+-- Numbers digit by digit: the next digit comes off the digits that are left, a number that is too large stays so, and so many hexadecimal
+-- digits stand for less than their power of 16.
+use Rattle.std.proofs.Common.{◌≡◌, ℕ, ◌+◌, ◌-◌, ◌*◌, ◌^◌, ◌<◌, ◌≤◌, min, Bool, true, false, cond, ◌&&◌, leb, nat_lt, List, [], ◌∷◌, length, get_or, drop, Some, None, Option, sym, refl, ap, ◌∙◌, subst, arith, mul_assoc}
+use Rattle.std.proofs.lemmas.Bool.{leb-true, leb-false, and_parts, lt-ltb, le-ltb}
+use Rattle.std.proofs.lemmas.List.{at_drop_more}
+use Rattle.std.proofs.Math.Nat.{le-mul_of_pos_right, pow-succ', pow-le-pow_right}
 use Rattle.rack.specs.Hex.{digit_of}
-use Rattle.words.specs.Words.{number_behind, decimal_digit, capped, decimal_of, hexadecimal_of}
+use Rattle.words.specs.Words.{number_behind, digit_below, capped, hexadecimal_of}
 
 abbrev by_digit : (ℕ → Option ℕ) → ℕ → ℕ → List ℕ → Option ℕ → Option ℕ
 by_digit digit base n bs o = elim o [ Some d ↦ number_behind digit base (n * base + d) bs | None ↦ None ]
 
 -- the digit at place i, of those from i on
-module _ (digit : ℕ → Option ℕ) (base n : ℕ) (w : List ℕ) (i : ℕ) where
-  pub one_more : (b d : ℕ) → i < length w → Some d ≡ digit (get_or w i b) → number_behind digit base n (drop i w) ≡ number_behind digit base (n * base + d) (drop (i + 1) w)
-  one_more b d h e = at_drop_more (number_behind digit base n) w i b h ∙ ap (by_digit digit base n (drop (i + 1) w)) (sym e)
-
-  pub no_digit : (b : ℕ) → i < length w → None ≡ digit (get_or w i b) → number_behind digit base n (drop i w) ≡ None
-  no_digit b h e = at_drop_more (number_behind digit base n) w i b h ∙ ap (by_digit digit base n (drop (i + 1) w)) (sym e)
-
-  pub no_more : length w ≤ i → number_behind digit base n (drop i w) ≡ Some n
-  no_more h = at_drop_all (number_behind digit base n) w i h
+pub one_more : (digit : ℕ → Option ℕ) (base n : ℕ) (w : List ℕ) (i b d : ℕ) → i < length w → Some d ≡ digit (get_or w i b) → number_behind digit base n (drop i w) ≡ number_behind digit base (n * base + d) (drop (i + 1) w)
+one_more digit base n w i b d h e = at_drop_more (number_behind digit base n) w i b h ∙ ap (by_digit digit base n (drop (i + 1) w)) (sym e)
 
 -- numbers that are the same or both too large stay so
-pub capped_alike : (m n : ℕ) (w : List ℕ) → min m 18446744073709551615 ≡ min n 18446744073709551615 → capped (number_behind decimal_digit 10 m w) ≡ capped (number_behind decimal_digit 10 n w)
-capped_alike m n [] e = ap (λ (k : ℕ). Some k) e
-capped_alike m n (b ∷ w) e = go (λ d. capped_alike (m * 10 + d) (n * 10 + d) w (omega (arith, e))) (decimal_digit b)
+pub capped_alike : (digit : ℕ → Option ℕ) (base m n : ℕ) (w : List ℕ) → 0 < base → min m 18446744073709551615 ≡ min n 18446744073709551615 → capped (number_behind digit base m w) ≡ capped (number_behind digit base n w)
+capped_alike digit base m n [] some e = ap (λ (k : ℕ). Some k) e
+capped_alike digit base m n (b ∷ w) some e = go (λ d. capped_alike digit base (m * base + d) (n * base + d) w some (one_on d (leb 18446744073709551615 m) refl)) (digit b)
   where
-    go : ((d : ℕ) → capped (number_behind decimal_digit 10 (m * 10 + d) w) ≡ capped (number_behind decimal_digit 10 (n * 10 + d) w)) → (o : Option ℕ) → capped (by_digit decimal_digit 10 m w o) ≡ capped (by_digit decimal_digit 10 n w o)
+    both : (s t d : ℕ) → 18446744073709551615 ≤ s → 18446744073709551615 ≤ t → min (s + d) 18446744073709551615 ≡ min (t + d) 18446744073709551615
+    both s t d h k = omega (arith, h, k)
+
+    one_on : (d : ℕ) (large : Bool) → leb 18446744073709551615 m ≡ large → min (m * base + d) 18446744073709551615 ≡ min (n * base + d) 18446744073709551615
+    one_on d true h =
+        let much : 18446744073709551615 ≤ m = leb-true 18446744073709551615 m h in
+        both (m * base) (n * base) d (omega (arith, much, le-mul_of_pos_right m some)) (omega (arith, e, much, le-mul_of_pos_right n some))
+    one_on d false h =
+        let few : m < 18446744073709551615 = leb-false 18446744073709551615 m h in
+        let same : m ≡ n = omega (arith, e, few) in
+        ap (λ k. min (k * base + d) 18446744073709551615) same
+
+    go : ((d : ℕ) → capped (number_behind digit base (m * base + d) w) ≡ capped (number_behind digit base (n * base + d) w)) → (o : Option ℕ) → capped (by_digit digit base m w o) ≡ capped (by_digit digit base n w o)
     go on None = refl
     go on (Some d) = on d
 
--- a word that is not empty
-pub decimal_is : (w : List ℕ) (o : Option ℕ) → (length w ≡ 0 → ⊥) → o ≡ capped (number_behind decimal_digit 10 0 w) → o ≡ decimal_of w
-decimal_is w o some e = e ∙ sym (ap (λ t. cond t None (capped (number_behind decimal_digit 10 0 w))) (ne_eqb (length w) 0 some))
+-- the next number, where a product and a sum stop at the largest
+pub saturated : (t s d r : ℕ) → s ≡ min t 18446744073709551615 → r ≡ min (s + d) 18446744073709551615 → min r 18446744073709551615 ≡ min (t + d) 18446744073709551615
+saturated t s d r e f = omega (arith, e, f)
 
-pub capped_as : (n : ℕ) → n ≤ 18446744073709551615 → Some n ≡ capped (Some n)
-capped_as n h =
-    let e : n ≡ min n 18446744073709551615 = omega arith in
-    ap (λ (k : ℕ). Some k) e
+-- digits that are read alike stand for the same number
+alike : (f g : ℕ → Option ℕ) (base n : ℕ) (w : List ℕ) → ((b : ℕ) → f b ≡ g b) → number_behind f base n w ≡ number_behind g base n w
+alike f g base n [] e = refl
+alike f g base n (b ∷ w) e = ap (by_digit f base n w) (e b) ∙ go (λ d. alike f g base (n * base + d) w e) (g b)
+  where
+    go : ((d : ℕ) → number_behind f base (n * base + d) w ≡ number_behind g base (n * base + d) w) → (o : Option ℕ) → by_digit f base n w o ≡ by_digit g base n w o
+    go on None = refl
+    go on (Some d) = on d
 
 -- ---- hexadecimal digits
-abbrev pub sixteens : ℕ → ℕ
-sixteens zero = 1
-sixteens (suc i) = 16 * sixteens i
-
-rises : (i k : ℕ) → sixteens i ≤ sixteens (k + i)
-rises i zero =
-    let same : 0 + i ≡ i = omega arith in
-    omega (arith, ap sixteens same)
-rises i (suc k) =
-    let on : suc k + i ≡ suc (k + i) = omega arith in
-    omega (arith, rises i k, ap sixteens on)
-
--- fifteen digits are 60 bits
-pub at_most : (i : ℕ) → i < 16 → sixteens i ≤ 1152921504606846976
-at_most i h =
-    let k : 15 - i + i ≡ 15 = omega arith in
-    let top : sixteens (15 - i + i) ≡ sixteens 15 = ap sixteens k in
-    omega (arith, rises i (15 - i), top)
-
-pub next_sixteen : (i : ℕ) → sixteens (i + 1) ≡ 16 * sixteens i
-next_sixteen i = ap sixteens (add_one' i)
-  where
-    add_one' : (k : ℕ) → k + 1 ≡ suc k
-    add_one' k = omega arith
-
-pub small : (b d : ℕ) → Some d ≡ digit_of b → d < 16
+small : (b d : ℕ) → Some d ≡ digit_of b → d < 16
 small b d e = go (leb 48 b && leb b 57) refl (leb 65 b && leb b 70) refl e
   where
     go : (t : Bool) → (leb 48 b && leb b 57) ≡ t → (u : Bool) → (leb 65 b && leb b 70) ≡ u → Some d ≡ cond t (Some (b - 48)) (cond u (Some (b - 55)) None) → d < 16
@@ -78,31 +63,41 @@ small b d e = go (leb 48 b && leb b 57) refl (leb 65 b && leb b 70) refl e
         omega (arith, leb-true 65 b both.0, leb-true b 70 both.1)
     go false p false q f = let z : ◌≡◌ {A = ℕ} 0 1 = cc in absurd (omega arith)
 
--- 16 times k for each digit
-abbrev times16 : ℕ → List ℕ → ℕ
-times16 k [] = k
-times16 k (b ∷ w) = times16 (16 * k) w
+sixteen : (b : ℕ) → digit_below 16 b ≡ digit_of b
+sixteen b = go (digit_of b) refl
+  where
+    go : (o : Option ℕ) → digit_of b ≡ o → elim o as (λ x. Option ℕ) [ Some d ↦ cond (nat_lt d 16) (Some d) None | None ↦ None ] ≡ o
+    go None e = refl
+    go (Some d) e = ap (λ t. cond t (Some d) None) (lt-ltb d 16 (small b d (sym e)))
 
 -- a number below k, and digits behind it
-below : (w : List ℕ) (n m k : ℕ) → n < k → Some m ≡ number_behind digit_of 16 n w → m < times16 k w
+below : (w : List ℕ) (n m k : ℕ) → n < k → Some m ≡ number_behind digit_of 16 n w → m < k * 16 ^ length w
 below [] n m k h e =
     let is : m ≡ n = cc in
     omega arith
-below (b ∷ w) n m k h e = go (λ d. below w (n * 16 + d) m (16 * k)) (digit_of b) refl e
+below (b ∷ w) n m k h e = go (λ d. below w (n * 16 + d) m (k * 16)) (digit_of b) refl e
   where
-    go : ((d : ℕ) → n * 16 + d < 16 * k → Some m ≡ number_behind digit_of 16 (n * 16 + d) w → m < times16 (16 * k) w) → (o : Option ℕ) → digit_of b ≡ o → Some m ≡ by_digit digit_of 16 n w o → m < times16 (16 * k) w
+    go : ((d : ℕ) → n * 16 + d < k * 16 → Some m ≡ number_behind digit_of 16 (n * 16 + d) w → m < k * 16 * 16 ^ length w) → (o : Option ℕ) → digit_of b ≡ o → Some m ≡ by_digit digit_of 16 n w o → m < k * 16 ^ length (b ∷ w)
     go on None p f = let z : ◌≡◌ {A = ℕ} 0 1 = cc in absurd (omega arith)
-    go on (Some d) p f = on d (omega (arith, small b d (sym p))) f
+    go on (Some d) p f =
+        let is : k * 16 * 16 ^ length w ≡ k * 16 ^ length (b ∷ w) = mul_assoc k 16 (16 ^ length w) ∙ ap (λ j. k * j) (sym (pow-succ' 16 (length w))) in
+        subst (λ j. m < j) is (on d (omega (arith, small b d (sym p))) f)
+
+few_are : (w : List ℕ) → length w ≤ 16 → hexadecimal_of w ≡ number_behind digit_of 16 0 w
+few_are w few = ap (λ t. cond t None (number_behind digit_of 16 0 w)) (le-ltb 16 (length w) few)
 
 -- four digits are a u16
 pub four_fit : (w : List ℕ) (m : ℕ) → length w ≡ 4 → Some m ≡ hexadecimal_of w → m < 65536
-four_fit [] m long e = absurd (omega arith)
-four_fit (a ∷ []) m long e = absurd (omega arith)
-four_fit (a ∷ b ∷ []) m long e = absurd (omega arith)
-four_fit (a ∷ b ∷ c ∷ []) m long e = absurd (omega arith)
-four_fit (a ∷ b ∷ c ∷ d ∷ []) m long e = below (a ∷ b ∷ c ∷ d ∷ []) 0 m 1 (omega arith) e
-four_fit (a ∷ b ∷ c ∷ d ∷ x ∷ w) m long e = absurd (omega arith)
+four_fit w m long e = subst (λ l. m < 1 * 16 ^ l) long (below w 0 m 1 (omega arith) (e ∙ few_are w (omega (arith, long))))
 
--- a word of at most sixteen digits
-pub hexadecimal_is : (w : List ℕ) (o : Option ℕ) → length w ≤ 16 → o ≡ number_behind digit_of 16 0 w → o ≡ hexadecimal_of w
-hexadecimal_is w o few e = e ∙ sym (ap (λ t. cond t None (number_behind digit_of 16 0 w)) (le-ltb 16 (length w) few))
+-- sixteen digits are a u64
+pub hexadecimal_is : (w : List ℕ) (o : Option ℕ) → length w ≤ 16 → o ≡ capped (number_behind (digit_below 16) 16 0 w) → o ≡ hexadecimal_of w
+hexadecimal_is w o few e = e ∙ ap capped (alike (digit_below 16) digit_of 16 0 w sixteen) ∙ exact (number_behind digit_of 16 0 w) refl ∙ sym (few_are w few)
+  where
+    exact : (n : Option ℕ) → number_behind digit_of 16 0 w ≡ n → capped n ≡ n
+    exact None f = refl
+    exact (Some m) f =
+        let fits : m < 1 * 16 ^ length w = below w 0 m 1 (omega arith) (sym f) in
+        let most : 16 ^ length w ≤ 16 ^ 16 = pow-le-pow_right (omega arith) few in
+        let is : min m 18446744073709551615 ≡ m = omega (arith, fits, most) in
+        ap (λ (k : ℕ). Some k) is

@@ -18,6 +18,10 @@ number_behind digit base n (b ∷ bs) = elim (digit b) [ Some d ↦ number_behin
 abbrev pub decimal_digit : ℕ → Option ℕ
 decimal_digit b = cond (nat_le 48 b && nat_le b 57) (Some (b - 48)) None
 
+-- the digit that a byte is in a base up to 16; none where it is none
+abbrev pub digit_below : ℕ → ℕ → Option ℕ
+digit_below base b = elim (digit_of b) [ Some d ↦ cond (nat_lt d base) (Some d) None | None ↦ None ]
+
 -- the largest of a usize, where a number is larger
 abbrev pub capped : Option ℕ → Option ℕ
 capped None = None

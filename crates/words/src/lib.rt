@@ -1,10 +1,10 @@
 //! The words of a line, as the programs read them: methods, decimal and hexadecimal numbers, operands.
 #![tactic(auto)]
 
-ghost use Rattle.std.specs.Prelude.{◌≡◌};
+ghost use Rattle.std.specs.Prelude.{◌≡◌, ◌<◌};
 ghost use Rattle.text.specs.Lines.{up_to, behind};
 ghost use Rattle.definitions.specs.Operands.{operand_of_kind};
-ghost use Rattle.words.specs.Words.{space, decimal_digit, decimal_of, hexadecimal_of, operand_of_word, NamesMethod};
+ghost use Rattle.words.specs.Words.{space, digit_below, number_behind, capped, decimal_of, hexadecimal_of, operand_of_word, NamesMethod};
 
 use definitions::operand::{DefinitionNumber, Operand};
 use methods::translate::Method;
@@ -44,31 +44,36 @@ impl<'a> Words<'a> {
     }
 }
 
-/// The value of a decimal digit; none for any other byte.
-fn decimal_digit(b: u8) -> Option<u8>
-    ensures { result ≡ decimal_digit b }
+/// The digit that a byte is in a base up to 16; none where it is none.
+fn digit_below(base: u8, b: u8) -> Option<u8>
+    ensures { result ≡ digit_below base b }
 {
-    match b {
-        b'0'..=b'9' => Some(b - b'0'),
-        _ => None,
+    digit(b).filter(|d| *d < base)
+}
+
+/// The number that digits of a base up to 16 stand for, or the largest where it is too large; none where a byte is no such digit.
+fn number(word: &[u8], base: u8) -> Option<u64>
+    requires { 0 < base }
+    ensures { result ≡ capped (number_behind (digit_below base) base 0 word.now) }
+{
+    let mut n: u64 = 0;
+    for b in word {
+        let d = digit_below(base, *b)?;
+        n = n
+            .saturating_mul(u64::from(base))
+            .saturating_add(u64::from(d));
     }
+    Some(n)
 }
 
 /// The number that a decimal word stands for, or the largest where it is too large; none where there is no digit, or a byte is none.
 pub fn decimal(word: &[u8]) -> Option<usize>
     ensures { result ≡ decimal_of word.now }
 {
-    if word.len() == 0 {
+    if word.is_empty() {
         return None;
     }
-    let mut n: usize = 0;
-    for b in word {
-        match decimal_digit(*b) {
-            Some(d) => n = n.saturating_mul(10).saturating_add(d as usize),
-            None => return None,
-        }
-    }
-    Some(n)
+    Some(number(word, 10)? as usize)
 }
 
 /// The number that up to sixteen hexadecimal digits stand for; none for more, or where a byte is no digit.
@@ -78,17 +83,11 @@ pub fn hexadecimal(word: &[u8]) -> Option<u64>
     if word.len() > 16 {
         return None;
     }
-    let mut n: u64 = 0;
-    for b in word {
-        match digit(*b) {
-            Some(d) => n = n * 16 + d as u64,
-            None => return None,
-        }
-    }
-    Some(n)
+    number(word, 16)
 }
 
 /// The operand of a kind and a number; none where they name none.
+// Kept: a kind is a number only here, where its digits are read; `Operand` is another crate's type and can have no `TryFrom` here.
 fn operand_of_kind(kind: u64, number: u16) -> Option<Operand>
     ensures { result ≡ operand_of_kind kind number }
 {
@@ -118,14 +117,10 @@ pub fn operand(word: &[u8]) -> Option<Operand>
 pub fn method(word: &[u8]) -> Option<Method>
     ensures { NamesMethod word.now result }
 {
-    if word == b"plain".as_slice() {
-        return Some(Method::Naive);
+    match word {
+        b"plain" => Some(Method::Naive),
+        b"decomposed" => Some(Method::Decomposition),
+        b"merged" => Some(Method::NodeMerging),
+        _ => None,
     }
-    if word == b"decomposed".as_slice() {
-        return Some(Method::Decomposition);
-    }
-    if word == b"merged".as_slice() {
-        return Some(Method::NodeMerging);
-    }
-    None
 }

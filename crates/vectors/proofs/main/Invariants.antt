@@ -1,7 +1,0 @@
--- The lines that are left fall.
-use Rattle.std.proofs.Common.{length}
-use Rattle.text.specs.Lines.{lines_of}
-use Rattle.vectors.proofs.main.Given as goal
-
-abbrev pub decreases-loop-line : goal.decreases-loop-line
-decreases-loop-line l = length (lines_of l.lines.rest.now)

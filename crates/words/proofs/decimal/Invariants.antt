@@ -1,7 +1,0 @@
--- What the digits from here on stand for, behind those that were read, is what all of them stand for.
-use Rattle.std.proofs.Common.{◌≡◌, ◌≤◌, drop}
-use Rattle.words.specs.Words.{number_behind, decimal_digit, capped}
-use Rattle.words.proofs.decimal.Given as goal
-
-abbrev pub invariant-loop-b : goal.invariant-loop-b
-invariant-loop-b l = (capped (number_behind decimal_digit 10 l.n (drop l.b-index l.word)) ≡ capped (number_behind decimal_digit 10 0 l.word)) × (l.n ≤ 18446744073709551615)
