@@ -1,6 +1,6 @@
 -- What is written, with the lines that are unsent, is what all of them come to.
 use Rattle.std.proofs.Common.{◌≡◌, ◌-◌, ◌++◌, vec_items}
-use Rattle.script.specs.Script.{reach}
+use Rattle.definitions.specs.Operands.{reach}
 use Rattle.delivery.specs.Calls.{sources}
 use Rattle.preprocess.specs.Answer.{lines_from}
 use Rattle.preprocess.proofs.Sending.{unsent_lines}
