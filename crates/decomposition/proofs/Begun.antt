@@ -22,13 +22,10 @@ pub any_spent : (rs : List WorkingRecord) → list_any spent rs ≡ has_empty (w
 any_spent [] = refl
 any_spent (r ∷ rs) = λ i. emptiness (way_in r) i || any_spent rs i
 
-begins_empty : (ws : List Way) → has_empty ws ≡ true → Break Always ≡ start_of ws
+pub begins_empty : (ws : List Way) → has_empty ws ≡ true → Break Always ≡ start_of ws
 begins_empty [] e = absurd (false≢true e)
 begins_empty ([] ∷ ws) e = refl
 begins_empty ((l ∷ w) ∷ ws) e = sym (ap (λ t. choose t (Break Always) (Continue l.part)) e)
-
-pub begins_always : (rs : List WorkingRecord) → has_empty (ways_in rs) ≡ true → Break Always ≡ start_of (ways_in rs)
-begins_always rs e = begins_empty (ways_in rs) e
 
 -- the first literal of the first record, where no way is empty
 begins_first : (w : Way) (ws : List Way) (l : Literal) → has_empty (w ∷ ws) ≡ false → first_of w ≡ Some l → Continue l.part ≡ start_of (w ∷ ws)

@@ -1,6 +1,9 @@
 -- How large the kinds of ways are: each that is written under a literal loses one at least, and the first way is never among the rest.
-use Rattle.std.proofs.Common.{◌≡◌, ℕ, ◌<◌, ◌≤◌, Bool, true, false, cond, not, ◌&&◌, ◌||◌, eqb, List, [], ◌∷◌, Continue, Break, map, length, filter, refl, ap, arith}
+use Rattle.std.proofs.Common.{◌≡◌, ◌<◌, ◌≤◌, Bool, true, false, cond, not, ◌&&◌, ◌||◌, eqb, List, [], ◌∷◌, Continue, Break, map, length, filter, refl, ap, arith}
 use Rattle.std.proofs.lemmas.Bool.{eq-eqb, false≢true}
+use Rattle.std.proofs.lemmas.List.Filters.{sum_by-filter_both}
+use Rattle.std.proofs.lemmas.List.Recursion.{is_sum_by}
+use Rattle.std.proofs.lemmas.List.Sums.{length-filter, count_by-le-length}
 use Rattle.rack.specs.declared.part.Literal.{Literal}
 use Rattle.rack.specs.declared.part.Part.{Part}
 use Rattle.rack.specs.declared.part.Sign.{Sign}
@@ -13,20 +16,12 @@ use Rattle.definitions.specs.Combine.{choose}
 use Rattle.working.specs.Records.{lacking, has_empty, size}
 use Rattle.decomposition.specs.Decomposition.{working_of, out_of, under, beside, start_of}
 
-kept_shorter : (p : Literal → Bool) (w : Way) → length (filter p w) ≤ length w
-kept_shorter p [] = omega arith
-kept_shorter p (l ∷ w) = by (kept_shorter p w) (p l)
-  where
-    by : length (filter p w) ≤ length w → (t : Bool) → length (cond t (l ∷ filter p w) (filter p w)) ≤ length (l ∷ w)
-    by h true = omega arith
-    by h false = omega arith
-
 lacking_shorter : (h : Literal) (w : Way) → holds h w ≡ true → length (lacking h w) < length w
 lacking_shorter h [] e = absurd (false≢true e)
 lacking_shorter h (l ∷ w) e = by (lacking_shorter h w) (same_literal l h) e
   where
     by : (holds h w ≡ true → length (lacking h w) < length w) → (t : Bool) → (t || holds h w) ≡ true → length (cond (not t) (l ∷ lacking h w) (lacking h w)) < length (l ∷ w)
-    by r true f = omega (arith, kept_shorter (λ m. not (same_literal m h)) w)
+    by r true f = omega (arith, length-filter (λ m. not (same_literal m h)) w, count_by-le-length (λ m. not (same_literal m h)) w)
     by r false f = omega (arith, r f)
 
 pub under_small : (h : Literal) (ws : List Way) → size (under h ws) ≤ literals ws
@@ -39,12 +34,10 @@ under_small h (w ∷ ws) = by (under_small h ws) (holds h w) refl
 
 -- what is kept of a list of ways has no more ways and no more literals
 kept_small : (p : Way → Bool) (ws : List Way) → (length (filter p ws) ≤ length ws) × (literals (filter p ws) ≤ literals ws)
-kept_small p [] = (omega arith, omega arith)
-kept_small p (w ∷ ws) = by (kept_small p ws) (p w)
-  where
-    by : (length (filter p ws) ≤ length ws) × (literals (filter p ws) ≤ literals ws) → (t : Bool) → (length (cond t (w ∷ filter p ws) (filter p ws)) ≤ length (w ∷ ws)) × (literals (cond t (w ∷ filter p ws) (filter p ws)) ≤ literals (w ∷ ws))
-    by h true = (omega (arith, h.0), omega (arith, h.1))
-    by h false = (omega (arith, h.0), omega (arith, h.1))
+kept_small p ws = (
+  omega (arith, length-filter p ws, count_by-le-length p ws),
+  omega (arith, is_sum_by literals length refl (λ _ _. refl) (filter p ws), is_sum_by literals length refl (λ _ _. refl) ws, sum_by-filter_both p (λ w. not (p w)) (λ _. refl) length ws),
+)
 
 pub beside_literals : (h : Literal) (ws : List Way) → literals (beside h ws) ≤ literals ws
 beside_literals h ws = (kept_small (λ w. not (holds h w)) ws).1
@@ -73,7 +66,7 @@ first_falls v l w ws e =
     one_less (λ u. not (holds (working_of v) u)) (λ u. not (holds (out_of v) u)) (l ∷ w) ws (one_sign (eqb l.part.0 v.0) l.sign (holds (working_of v) w) (holds (out_of v) w) (eq-eqb l.part.0 v.0 (ap (λ p. p.0) e)))
 
 some_way : (v : Part) (ws : List Way) → start_of ws ≡ Continue v → 0 < length ws
-some_way v [] e = let z : ◌≡◌ {A = ℕ} 0 1 = cc in absurd (omega arith)
+some_way v [] e = absurd (cc)
 some_way v (w ∷ ws) e = omega arith
 
 -- the three kinds are smaller than the whole
@@ -85,10 +78,10 @@ module _ (v : Part) (ws : List Way) (e : start_of ws ≡ Continue v) where
   out_falls = omega (arith, under_small (out_of v) (beside (working_of v) ws), beside_literals (working_of v) ws, some_way v ws e)
 
 pub rest_falls : (v : Part) (ws : List Way) → start_of ws ≡ Continue v → size (beside (out_of v) (beside (working_of v) ws)) < size ws
-rest_falls v [] e = let z : ◌≡◌ {A = ℕ} 0 1 = cc in absurd (omega arith)
-rest_falls v ([] ∷ ws) e = let z : ◌≡◌ {A = ℕ} 0 1 = cc in absurd (omega arith)
+rest_falls v [] e = absurd (cc)
+rest_falls v ([] ∷ ws) e = absurd (cc)
 rest_falls v ((l ∷ w) ∷ ws) e = by (has_empty ws) e
   where
     by : (t : Bool) → choose t (Break Always) (Continue l.part) ≡ Continue v → size (beside (out_of v) (beside (working_of v) ((l ∷ w) ∷ ws))) < size ((l ∷ w) ∷ ws)
-    by true f = let z : ◌≡◌ {A = ℕ} 0 1 = cc in absurd (omega arith)
+    by true f = absurd (cc)
     by false f = first_falls v l w ws (cc)

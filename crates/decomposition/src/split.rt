@@ -77,7 +77,7 @@ fn decompose(
     room: &mut [WorkingRecord],
     draft: &mut Draft<'_>,
 ) -> Result<Operand, LimitReached>
-    requires enough { literals (ways_in list.old) ≤ length room.old }
+    requires { literals (ways_in list.old) ≤ length room.old }
     ensures { Wrote draft.old draft.new result (decomposing draft.old.limit (ways_in list.old)) }
 {
     let part = match begins(list) {

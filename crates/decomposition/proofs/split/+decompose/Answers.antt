@@ -19,7 +19,7 @@ decompose-requires t c =
     let cut = c.split_at_mut-ways.ensures in
     let front = ap ways_in cut.front ∙ c.divide-held.ensures.held in (
       omega (arith, working_falls v ws (sym c.in-Continue.ensures), ap size front),
-      spare_serves (working_of v) ws _ _ front cut.front_len cut.back_len (omega (arith, c.requires.enough, c.divide-held.auto.room)),
+      spare_serves (working_of v) ws _ _ front cut.front_len cut.back_len (omega (arith, c.requires, c.divide-held.auto.room)),
     )
 
 pub returns-in_err-working : goal.returns-in_err-working
@@ -31,7 +31,7 @@ returns-in_err-working t c =
     (stop _ (second v others _) c.from_residual.ensures.0 (told front c.in_err-working.ensures))
 
 pub divide-held-requires-2 : goal.divide-held-requires-2
-divide-held-requires-2 t c = omega (arith, c.requires.enough, beside_literals (working_of c.in-Continue.part) (ways_in c.args.list.now), ap literals c.divide-held.ensures.left, c.divide-held.auto.room)
+divide-held-requires-2 t c = omega (arith, c.requires, beside_literals (working_of c.in-Continue.part) (ways_in c.args.list.now), ap literals c.divide-held.ensures.left, c.divide-held.auto.room)
 
 pub decompose-requires-2 : goal.decompose-requires-2
 decompose-requires-2 t c =
@@ -42,7 +42,7 @@ decompose-requires-2 t c =
     let cut = c.split_at_mut-ways-2.ensures in
     let front = ap ways_in cut.front ∙ c.divide-held-2.ensures.held in (
       omega (arith, out_falls v ws (sym c.in-Continue.ensures), ap size (front ∙ ap (under (out_of v)) left)),
-      spare_serves (out_of v) others _ _ front cut.front_len cut.back_len (omega (arith, c.requires.enough, beside_literals (working_of v) ws, ap literals left, c.divide-held.auto.room, c.divide-held-2.auto.room)),
+      spare_serves (out_of v) others _ _ front cut.front_len cut.back_len (omega (arith, c.requires, beside_literals (working_of v) ws, ap literals left, c.divide-held.auto.room, c.divide-held-2.auto.room)),
     )
 
 pub returns-in_err-out : goal.returns-in_err-out
@@ -63,7 +63,7 @@ decompose-requires-3 t c =
     let left = c.divide-held.ensures.left in
     let left_2 = c.divide-held-2.ensures.left in (
       omega (arith, rest_falls v ws (sym c.in-Continue.ensures), ap size (left_2 ∙ ap (beside (out_of v)) left)),
-      omega (arith, c.requires.enough, beside_literals (working_of v) ws, ap literals left, beside_literals (out_of v) others, ap literals left_2, c.divide-held.auto.room, c.divide-held-2.auto.room),
+      omega (arith, c.requires, beside_literals (working_of v) ws, ap literals left, beside_literals (out_of v) others, ap literals left_2, c.divide-held.auto.room, c.divide-held-2.auto.room),
     )
 
 pub returns-in_err-rest : goal.returns-in_err-rest
