@@ -1,5 +1,5 @@
 -- Merging the records that the ways were entered in is merging the ways.
-use Rattle.std.proofs.Common.{◌≡◌, ℕ, zero, suc, ◌+◌, ◌<◌, ◌≤◌, ◌||◌, List, [], ◌∷◌, ◌++◌, length, get_or, is_some, Some, None, Option, refl, ap, ◌∙◌, append-nil, arith, eqb-true}
+use Rattle.std.proofs.Common.{◌≡◌, ℕ, zero, suc, ◌+◌, ◌<◌, ◌≤◌, ◌||◌, List, [], ◌∷◌, ◌++◌, length, get_or, Some, None, Option, refl, ap, ◌∙◌, append-nil, arith, eqb-true}
 use Rattle.std.specs.List.{flat_map}
 use Rattle.std.proofs.lemmas.List.{length-map, get_or-map}
 use Rattle.std.proofs.lemmas.Grind.{flat_map-append}
@@ -15,7 +15,7 @@ use Rattle.working.specs.declared.record.WorkingRecord.TheVariants as record_of
 use Rattle.working.specs.Records.{has_empty, operand_of}
 use Rattle.merging.specs.Merging.{join_heads, merge_in}
 use Rattle.merging.specs.Merging as ways
-use Rattle.merging.specs.Trie.{end_at, node_from, ended, branch_of, turn_by, join_at, merge_at, entering_all}
+use Rattle.merging.specs.Trie.{end_at, ended, branch_of, turn_by, join_at, merge_at, entering_all}
 use Rattle.merging.proofs.Labels.{Label, Label.lit, Label.end, Label.other, rests_of, is_in, heads_after, heads, link, view, wholes, views, child_lits, rests_at, rests_push, none, Fits}
 use Rattle.merging.proofs.Steps.{in_last, in_after}
 use Rattle.merging.proofs.Filling.{filled}
@@ -60,11 +60,11 @@ in_heads gs ((h ∷ w) ∷ W) = grind (arith, in_heads gs W, in_heads (gs ++ lit
 
 -- the records of a node
 
-ended_is : (n m : ℕ) (R : List WorkingRecord) → is_some (node_from n R (end_at m)) ≡ is_in end (child_lits m (views R))
-ended_is n m [] = refl
-ended_is n m (record_of.Way left ∷ R) = grind (arith, ended_is (n + 1) m R)
-ended_is n m (record_of.Branch p l ∷ R) = grind (arith, ended_is (n + 1) m R)
-ended_is n m (record_of.End q ∷ R) = grind (arith, ended_is (n + 1) m R)
+ended_is : (m : ℕ) (R : List WorkingRecord) → ended R m ≡ is_in end (child_lits m (views R))
+ended_is m [] = refl
+ended_is m (record_of.Way left ∷ R) = grind (arith, ended_is m R)
+ended_is m (record_of.Branch p l ∷ R) = grind (arith, ended_is m R)
+ended_is m (record_of.End q ∷ R) = grind (arith, ended_is m R)
 
 abbrev some_lit : Option Literal → List Literal → List Literal
 some_lit (Some l) ls = l ∷ ls
@@ -108,7 +108,7 @@ module _ (limit : ℕ) (R : List WorkingRecord) (ws : List Way) (path : ℕ → 
   ends_same : (m : ℕ) (W : List Way) → m ≤ length R → rests_at (path m) (wholes ws) ≡ wholes W → ended R m ≡ has_empty W
   ends_same m W l at =
       let long = length-map R view in
-      ended_is 1 m R ∙ ap (is_in end) (f.kids m (omega arith) ∙ ap heads at) ∙ in_heads [] W
+      ended_is m R ∙ ap (is_in end) (f.kids m (omega arith) ∙ ap heads at) ∙ in_heads [] W
 
   heads_same : (m : ℕ) (W : List Way) → m ≤ length R → rests_at (path m) (wholes ws) ≡ wholes W → branch_lits m R ≡ ways.heads W
   heads_same m W l at =

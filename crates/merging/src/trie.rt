@@ -98,7 +98,7 @@ impl Trie<'_> {
     fn is_ended(&self, node: Node) -> bool
         ensures { result ≡ ended (marks self.now) node.0 }
     {
-        find_first(self.marks(), &WorkingRecord::End { node }).is_some()
+        self.marks().contains(&WorkingRecord::End { node })
     }
 
     /// What is below the node, so many literals deep: each of its branches in turn, and of each what is below it first.
