@@ -16,8 +16,7 @@ use Rattle.working.specs.Records.{operand_of}
 -- a branch or an end, and no way
 abbrev pub is_mark : WorkingRecord → Bool
 is_mark (record_of.Way left) = false
-is_mark (record_of.Branch p l) = true
-is_mark (record_of.End n) = true
+is_mark _ = true
 
 -- two branches of one node by one literal, or two ends at one node
 abbrev pub same_mark : WorkingRecord → WorkingRecord → Bool
@@ -67,9 +66,8 @@ ended rs n = list_any (λ q. same_mark q (end_at n)) rs
 
 -- the literal, where the record is a branch of node n
 abbrev pub branch_of : ℕ → WorkingRecord → Option Literal
-branch_of n (record_of.Way left) = None
 branch_of n (record_of.Branch p l) = choose (p.0 == n) (Some l) None
-branch_of n (record_of.End m) = None
+branch_of n _ = None
 
 -- one record: of a branch by l what is below it, then the meet, then the join with what came before; any other is passed over
 abbrev pub turn_by : ℕ → Writing → Operand → (Operand → Writing) → Option Literal → Writing

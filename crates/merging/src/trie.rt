@@ -140,6 +140,7 @@ impl Writer for NodeMerging {
         room: &mut [WorkingRecord],
         draft: &mut Draft<'_>,
     ) -> Result<Operand, LimitReached> {
+        // No way is longer than its literals and the others are together, and the room holds as many.
         let height = room.len();
         let mut trie = Trie {
             records: room,
