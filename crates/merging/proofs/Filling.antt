@@ -1,6 +1,6 @@
 -- The records that the ways were entered in hold the ways.
-use Rattle.std.proofs.Common.{◌≡◌, ℕ, zero, suc, ◌+◌, ◌<◌, ◌≤◌, true, ◌⊎◌, List, [], ◌∷◌, ◌++◌, length, get_or, sym, refl, ap, ◌∙◌, subst, inl, inr, append_assoc, append-nil, arith}
-use Rattle.std.proofs.lemmas.List.{length_push}
+use Rattle.std.proofs.Common.{◌≡◌, ℕ, ◌+◌, ◌<◌, ◌≤◌, true, ◌⊎◌, List, [], ◌∷◌, ◌++◌, length, get_or, sym, refl, ap, ◌∙◌, subst, inl, inr, append_assoc, append-nil, arith}
+use Rattle.std.proofs.lemmas.List.{length_push, length-map, get_or-map, map-append}
 use Rattle.rack.specs.Way.{Way}
 use Rattle.rack.specs.First.{FirstAt, Nowhere}
 use Rattle.working.specs.declared.record.WorkingRecord.{WorkingRecord}
@@ -8,19 +8,6 @@ use Rattle.merging.specs.Trie.{is_mark, branch_at, end_at, reaching, entering, e
 use Rattle.merging.proofs.Marks.{reaching_found, reaching_new, look}
 use Rattle.merging.proofs.Labels.{Label, Label.lit, Label.end, Word, Link, link, view, view_same, whole, wholes, views, none, Fits, Filled}
 use Rattle.merging.proofs.Steps.{way_starts, way_follows, way_grows, newest, paths_with}
-
-pub length_views : (R : List WorkingRecord) → length (views R) ≡ length R
-length_views [] = refl
-length_views (r ∷ R) = ap suc (length_views R)
-
-pub views_index : (R : List WorkingRecord) (i : ℕ) (e : WorkingRecord) → i < length R → get_or (views R) i none ≡ view (get_or R i e)
-views_index [] i e l = absurd (omega arith)
-views_index (r ∷ R) zero e l = refl
-views_index (r ∷ R) (suc i) e l = views_index R i e (omega arith)
-
-views_push : (R : List WorkingRecord) (r : WorkingRecord) → views (R ++ r ∷ []) ≡ views R ++ view r ∷ []
-views_push [] r = refl
-views_push (q ∷ R) r = ap (λ x. view q ∷ x) (views_push R r)
 
 -- the link that leads from R to node k, found or added
 abbrev Placed : List Link → Link → List Link → ℕ → Type 0
@@ -33,16 +20,16 @@ placed R r m = go (look r m R)
     go (inl f) =
         let i = f.0 in
         let e = reaching_found r m R i f.1 in
-        let long = length_views R in
+        let long = length-map R view in
         let inside : i < length R = f.1.inside in
-        inl (ap (λ x. views x.records) e, (i, ap (λ x. x.node) e, omega arith, views_index R i r inside ∙ ap view f.1.here))
+        inl (ap (λ x. views x.records) e, (i, ap (λ x. x.node) e, omega arith, get_or-map view R i r none inside ∙ ap view f.1.here))
     go (inr new) =
         let e = reaching_new r m R new in
-        let long = length_views R in
+        let long = length-map R view in
         inr (
-          ap (λ x. views x.records) e ∙ views_push R r,
+          ap (λ x. views x.records) e ∙ map-append view R (r ∷ []),
           ap (λ x. x.node) e ∙ ap (λ n. n + 1) (sym long),
-          λ i il same. let inside : i < length R = omega arith in new i inside (view_same (get_or R i r) r m (sym (views_index R i r inside) ∙ same)),
+          λ i il same. let inside : i < length R = omega arith in new i inside (view_same (get_or R i r) r m (sym (get_or-map view R i r none inside) ∙ same)),
         )
 
 -- R holds ws and the beginning v of one way more, which leads to node m

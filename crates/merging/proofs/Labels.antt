@@ -1,6 +1,6 @@
 -- The records as links. The end of a way is one label more, so that a way with its end is a list of labels, and an end mark is a
 -- branch as any other.
-use Rattle.std.proofs.Common.{◌≡◌, ℕ, ◌+◌, ◌<◌, ◌≤◌, Bool, true, false, eqb, List, [], ◌∷◌, ◌++◌, length, get_or, Decides, sym, refl, ap, ◌∙◌, arith}
+use Rattle.std.proofs.Common.{◌≡◌, ℕ, ◌+◌, ◌<◌, ◌≤◌, Bool, true, false, eqb, List, [], ◌∷◌, ◌++◌, map, length, get_or, Decides, refl, ap, arith}
 use Rattle.std.proofs.lemmas.Bool.{false≢true}
 use Rattle.std.proofs.lemmas.Bool.Decides.{Decides-like}
 use Rattle.rack.specs.declared.part.Literal.{Literal}
@@ -73,24 +73,14 @@ view (record_of.Way left) = link 0 other
 view (record_of.Branch p l) = link p.0 (lit l)
 view (record_of.End n) = link n.0 end
 
--- a mark from its link
-abbrev unview : WorkingRecord → ℕ → Label → WorkingRecord
-unview q p (lit l) = branch_at p l
-unview q p end = end_at p
-unview q p other = q
-
-unview_is : (r q : WorkingRecord) → is_mark r ≡ true → unview q (view r).parent (view r).label ≡ r
-unview_is (record_of.Way left) q m = absurd (false≢true m)
-unview_is (record_of.Branch p l) q m = refl
-unview_is (record_of.End n) q m = refl
-
-unview_own : (r : WorkingRecord) → unview r (view r).parent (view r).label ≡ r
-unview_own (record_of.Way left) = refl
-unview_own (record_of.Branch p l) = refl
-unview_own (record_of.End n) = refl
-
 pub view_same : (r s : WorkingRecord) → is_mark s ≡ true → view r ≡ view s → r ≡ s
-view_same r s m e = sym (unview_own r) ∙ (λ k. unview r (e k).parent (e k).label) ∙ unview_is s r m
+view_same r (record_of.Way left) m e = absurd (false≢true m)
+view_same (record_of.Way left) (record_of.Branch q k) m e = let a = ap (λ x. x.label) e in absurd (cc)
+view_same (record_of.Way left) (record_of.End q) m e = let a = ap (λ x. x.label) e in absurd (cc)
+view_same (record_of.Branch p l) (record_of.Branch q k) m e = let a = ap (λ x. x.label) e in let b : l ≡ k = cc in (λ i. branch_at (e i).parent (b i))
+view_same (record_of.Branch p l) (record_of.End q) m e = let a = ap (λ x. x.label) e in absurd (cc)
+view_same (record_of.End p) (record_of.Branch q k) m e = let a = ap (λ x. x.label) e in absurd (cc)
+view_same (record_of.End p) (record_of.End q) m e = (λ i. end_at (e i).parent)
 
 -- a way with its end
 abbrev pub whole : Way → Word
@@ -98,12 +88,10 @@ whole [] = end ∷ []
 whole (l ∷ w) = lit l ∷ whole w
 
 abbrev pub wholes : List Way → List Word
-wholes [] = []
-wholes (w ∷ ws) = whole w ∷ wholes ws
+wholes ws = map whole ws
 
 abbrev pub views : List WorkingRecord → List Link
-views [] = []
-views (r ∷ rs) = view r ∷ views rs
+views rs = map view rs
 
 -- the labels of the links of node m
 abbrev pub child_lits : ℕ → List Link → List Label

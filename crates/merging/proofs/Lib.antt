@@ -1,3 +1,4 @@
+pub mod First
 pub mod Marks
 pub mod Labels
 pub mod Steps

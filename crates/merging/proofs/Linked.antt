@@ -1,5 +1,8 @@
 -- Merging the records that the ways were entered in is merging the ways.
-use Rattle.std.proofs.Common.{◌≡◌, ℕ, zero, suc, ◌+◌, ◌<◌, ◌≤◌, Bool, ◌||◌, List, [], ◌∷◌, ◌++◌, length, get_or, is_some, Some, None, Option, refl, ap, ◌∙◌, arith, eqb-true}
+use Rattle.std.proofs.Common.{◌≡◌, ℕ, zero, suc, ◌+◌, ◌<◌, ◌≤◌, ◌||◌, List, [], ◌∷◌, ◌++◌, length, get_or, Some, None, Option, refl, ap, ◌∙◌, append-nil, arith, eqb-true}
+use Rattle.std.specs.List.{flat_map}
+use Rattle.std.proofs.lemmas.List.{length-map, get_or-map}
+use Rattle.std.proofs.lemmas.Grind.{flat_map-append}
 use Rattle.rack.specs.declared.part.Literal.{Literal}
 use Rattle.rack.specs.Way.{Way}
 use Rattle.table.specs.Kept.{same_literal}
@@ -12,10 +15,10 @@ use Rattle.working.specs.declared.record.WorkingRecord.TheVariants as record_of
 use Rattle.working.specs.Records.{has_empty, operand_of}
 use Rattle.merging.specs.Merging.{join_heads, merge_in}
 use Rattle.merging.specs.Merging as ways
-use Rattle.merging.specs.Trie.{end_at, node_from, ended, branch_of, turn_by, join_at, merge_at, entering_all}
-use Rattle.merging.proofs.Labels.{Label, Label.lit, Label.end, Label.other, same_label, Word, rests_of, is_in, heads_after, heads, link, view, wholes, views, child_lits, rests_at, rests_push, none, Fits}
+use Rattle.merging.specs.Trie.{end_at, ended, branch_of, turn_by, join_at, merge_at, entering_all}
+use Rattle.merging.proofs.Labels.{Label, Label.lit, Label.end, Label.other, rests_of, is_in, heads_after, heads, link, view, wholes, views, child_lits, rests_at, rests_push, none, Fits}
 use Rattle.merging.proofs.Steps.{in_last, in_after}
-use Rattle.merging.proofs.Filling.{length_views, views_index, filled}
+use Rattle.merging.proofs.Filling.{filled}
 
 -- the ways with their ends, by the first literal
 
@@ -24,27 +27,14 @@ rests_whole h [] = refl
 rests_whole h ([] ∷ W) = rests_whole h W
 rests_whole h ((g ∷ w) ∷ W) = grind (arith, rests_whole h W)
 
+abbrev lits : Label → List Literal
+lits (lit l) = l ∷ []
+lits end = []
+lits other = []
+
 -- the literals among some labels
-abbrev some : Label → List Literal → List Literal
-some (lit l) ls = l ∷ ls
-some end ls = ls
-some other ls = ls
-
 abbrev somes : List Label → List Literal
-somes [] = []
-somes (x ∷ xs) = some x (somes xs)
-
-somes_some : (gs : List Label) (l : Literal) → somes (gs ++ lit l ∷ []) ≡ somes gs ++ l ∷ []
-somes_some [] l = refl
-somes_some (lit g ∷ gs) l = ap (λ x. g ∷ x) (somes_some gs l)
-somes_some (end ∷ gs) l = somes_some gs l
-somes_some (other ∷ gs) l = somes_some gs l
-
-somes_none : (gs : List Label) → somes (gs ++ end ∷ []) ≡ somes gs
-somes_none [] = refl
-somes_none (lit g ∷ gs) = ap (λ x. g ∷ x) (somes_none gs)
-somes_none (end ∷ gs) = somes_none gs
-somes_none (other ∷ gs) = somes_none gs
+somes gs = flat_map lits gs
 
 in_somes : (h : Literal) (gs : List Label) → is_in (lit h) gs ≡ ways.is_in same_literal h (somes gs)
 in_somes h [] = refl
@@ -52,22 +42,16 @@ in_somes h (lit g ∷ gs) = ap (λ t. same_literal g h || t) (in_somes h gs)
 in_somes h (end ∷ gs) = in_somes h gs
 in_somes h (other ∷ gs) = in_somes h gs
 
-abbrev by_new : Bool → List Label → List Label → List Word → List Label
-by_new t gs hs ws = choose t (heads_after gs ws) (heads_after hs ws)
-
-abbrev by_new' : Bool → List Literal → List Literal → List Way → List Literal
-by_new' t gs hs ws = choose t (ways.heads_after same_literal gs ws) (ways.heads_after same_literal hs ws)
-
 heads_whole : (gs : List Label) (W : List Way) → somes (heads_after gs (wholes W)) ≡ ways.heads_after same_literal (somes gs) W
 heads_whole gs [] = refl
-heads_whole gs ([] ∷ W) = grind (arith, heads_whole gs W, heads_whole (gs ++ end ∷ []) W, somes_none gs)
-heads_whole gs ((h ∷ w) ∷ W) = grind (arith, heads_whole gs W, heads_whole (gs ++ lit h ∷ []) W, in_somes h gs, somes_some gs h)
+heads_whole gs ([] ∷ W) = grind (arith, heads_whole gs W, heads_whole (gs ++ end ∷ []) W, flat_map-append lits gs (end ∷ []), append-nil)
+heads_whole gs ((h ∷ w) ∷ W) = grind (arith, heads_whole gs W, heads_whole (gs ++ lit h ∷ []) W, in_somes h gs, flat_map-append lits gs (lit h ∷ []))
 
 -- a way has ended where the end is among the heads
 
 in_other : (h : Literal) (gs : List Label) → is_in end (gs ++ lit h ∷ []) ≡ is_in end gs
 in_other h [] = refl
-in_other h (g ∷ gs) = ap (λ t. same_label g end || t) (in_other h gs)
+in_other h (g ∷ gs) = grind (arith, in_other h gs)
 
 in_heads : (gs : List Label) (W : List Way) → is_in end (heads_after gs (wholes W)) ≡ (is_in end gs || has_empty W)
 in_heads gs [] = grind arith
@@ -76,11 +60,11 @@ in_heads gs ((h ∷ w) ∷ W) = grind (arith, in_heads gs W, in_heads (gs ++ lit
 
 -- the records of a node
 
-ended_is : (n m : ℕ) (R : List WorkingRecord) → is_some (node_from n R (end_at m)) ≡ is_in end (child_lits m (views R))
-ended_is n m [] = refl
-ended_is n m (record_of.Way left ∷ R) = grind (arith, ended_is (n + 1) m R)
-ended_is n m (record_of.Branch p l ∷ R) = grind (arith, ended_is (n + 1) m R)
-ended_is n m (record_of.End q ∷ R) = grind (arith, ended_is (n + 1) m R)
+ended_is : (m : ℕ) (R : List WorkingRecord) → ended R m ≡ is_in end (child_lits m (views R))
+ended_is m [] = refl
+ended_is m (record_of.Way left ∷ R) = grind (arith, ended_is m R)
+ended_is m (record_of.Branch p l ∷ R) = grind (arith, ended_is m R)
+ended_is m (record_of.End q ∷ R) = grind (arith, ended_is m R)
 
 abbrev some_lit : Option Literal → List Literal → List Literal
 some_lit (Some l) ls = l ∷ ls
@@ -96,10 +80,6 @@ branch_lits_are m (record_of.Way left ∷ R) = grind (arith, branch_lits_are m R
 branch_lits_are m (record_of.Branch p l ∷ R) = grind (arith, branch_lits_are m R)
 branch_lits_are m (record_of.End q ∷ R) = grind (arith, branch_lits_are m R)
 
-abbrev lit_or : Literal → Option Literal → Literal
-lit_or d (Some l) = l
-lit_or d None = d
-
 branch_view : (m : ℕ) (l : Literal) (r : WorkingRecord) → branch_of m r ≡ Some l → view r ≡ link m (lit l)
 branch_view m l (record_of.Way left) e = grind arith
 branch_view m l (record_of.Branch p x) e = grind (arith, eqb-true p.0 m)
@@ -111,34 +91,34 @@ blank = end_at 0
 
 join_same : (limit : ℕ) (sub : ℕ → Writing) (sub' : List Way → Writing) (W : List Way) (m place : ℕ) (sofar : Operand) (S : List WorkingRecord) → ((i : ℕ) (l : Literal) → i < length S → branch_of m (get_or S i blank) ≡ Some l → sub (place + i + 1) ≡ sub' (ways.rests_of l W)) → join_at limit sub m place sofar S ≡ join_heads limit sub' W sofar (branch_lits m S)
 join_same limit sub sub' W m place sofar [] each = refl
-join_same limit sub sub' W m place sofar (b ∷ S) each = go (branch_of m b) refl (λ x. join_same limit sub sub' W m (place + 1) x S later)
+join_same limit sub sub' W m place sofar (b ∷ S) each = go (λ x. join_same limit sub sub' W m (place + 1) x S later) (branch_of m b) refl
   where
     later : (i : ℕ) (l : Literal) → i < length S → branch_of m (get_or S i blank) ≡ Some l → sub (place + 1 + i + 1) ≡ sub' (ways.rests_of l W)
     later i l il mine = let at : place + 1 + i + 1 ≡ place + suc i + 1 = omega arith in ap sub at ∙ each (suc i) l (omega arith) mine
 
-    go : (o : Option Literal) → branch_of m b ≡ o → ((x : Operand) → join_at limit sub m (place + 1) x S ≡ join_heads limit sub' W x (branch_lits m S)) → turn_by limit (sub (place + 1)) sofar (λ j. join_at limit sub m (place + 1) j S) o ≡ join_heads limit sub' W sofar (some_lit o (branch_lits m S))
-    go None e same = same sofar
-    go (Some l) e same =
+    go : ((x : Operand) → join_at limit sub m (place + 1) x S ≡ join_heads limit sub' W x (branch_lits m S)) → (o : Option Literal) → branch_of m b ≡ o → turn_by limit (sub (place + 1)) sofar (λ j. join_at limit sub m (place + 1) j S) o ≡ join_heads limit sub' W sofar (some_lit o (branch_lits m S))
+    go same None e = same sofar
+    go same (Some l) e =
         let at : place + 1 ≡ place + 0 + 1 = omega arith in
-        let first : sub (place + 1) ≡ sub' (ways.rests_of l W) = ap sub at ∙ each 0 l (omega arith) e in
-        (λ k. and_then (first k) (λ x. and_then (combining limit Meet (operand_of l) x) (λ y. and_then (combining limit Join sofar y) (λ j. same j k))))
+        let below = ap sub at ∙ each 0 l (omega arith) e in
+        (λ k. and_then (below k) (λ x. and_then (combining limit Meet (operand_of l) x) (λ y. and_then (combining limit Join sofar y) (λ j. same j k))))
 
 module _ (limit : ℕ) (R : List WorkingRecord) (ws : List Way) (path : ℕ → List Label) (f : Fits (views R) path (wholes ws)) where
   -- W are the rests at node m
   ends_same : (m : ℕ) (W : List Way) → m ≤ length R → rests_at (path m) (wholes ws) ≡ wholes W → ended R m ≡ has_empty W
   ends_same m W l at =
-      let long = length_views R in
-      ended_is 1 m R ∙ ap (is_in end) (f.kids m (omega arith) ∙ ap heads at) ∙ in_heads [] W
+      let long = length-map R view in
+      ended_is m R ∙ ap (is_in end) (f.kids m (omega arith) ∙ ap heads at) ∙ in_heads [] W
 
   heads_same : (m : ℕ) (W : List Way) → m ≤ length R → rests_at (path m) (wholes ws) ≡ wholes W → branch_lits m R ≡ ways.heads W
   heads_same m W l at =
-      let long = length_views R in
+      let long = length-map R view in
       branch_lits_are m R ∙ ap somes (f.kids m (omega arith) ∙ ap heads at) ∙ heads_whole [] W
 
   rests_same : (m i : ℕ) (x : Literal) (W : List Way) → rests_at (path m) (wholes ws) ≡ wholes W → i < length R → branch_of m (get_or R i blank) ≡ Some x → rests_at (path (i + 1)) (wholes ws) ≡ wholes (ways.rests_of x W)
   rests_same m i x W at il mine =
-      let long = length_views R in
-      let here : get_or (views R) i none ≡ link m (lit x) = views_index R i blank il ∙ branch_view m x (get_or R i blank) mine in
+      let long = length-map R view in
+      let here : get_or (views R) i none ≡ link m (lit x) = get_or-map view R i blank none il ∙ branch_view m x (get_or R i blank) mine in
       let down : path (i + 1) ≡ path m ++ lit x ∷ [] = f.step i (omega arith) ∙ ap (λ b. path b.parent ++ b.label ∷ []) here in
       ap (λ p. rests_at p (wholes ws)) down ∙ rests_push (path m) (lit x) (wholes ws) ∙ ap (rests_of (lit x)) at ∙ rests_whole x W
 

@@ -36,7 +36,7 @@ module _ {was now : Draft} {whole : Writing} (h node : ℕ) (rs : List WorkingRe
     passes e = turn None e
 
     -- the record is a branch by l, which has the operand x
-    module _ (l : Literal) (x : Operand) (mine : Some l ≡ branch_of node (get_or ss i r)) (named : x ≡ operand_of l) where
+    module _ {l : Literal} {x : Operand} (mine : Some l ≡ branch_of node (get_or ss i r)) (named : x ≡ operand_of l) where
       abbrev joining : Operand → Writing
       joining y = and_then (combining was.limit Join sofar y) next
 

@@ -1,6 +1,7 @@
 -- The same rule over the records of a trie: the record at place i leads to node i + 1, and node 0 is the root.
 -- A branch says that a way goes on from a node by a literal, and an end that a way ends at a node.
-use Rattle.std.specs.Prelude.{ℕ, zero, suc, ◌+◌, Bool, true, false, ◌&&◌, List, [], ◌∷◌, ◌++◌, length, is_some, Some, None, Option, ◌==◌}
+use Rattle.std.specs.Prelude.{ℕ, zero, suc, ◌+◌, Bool, true, false, ◌&&◌, List, [], ◌∷◌, ◌++◌, length, Some, None, Option, ◌==◌}
+use Rattle.std.specs.List.{list_any, position}
 use Rattle.rack.specs.declared.part.Literal.{Literal}
 use Rattle.rack.specs.Way.{Way}
 use Rattle.table.specs.Kept.{same_literal}
@@ -15,8 +16,7 @@ use Rattle.working.specs.Records.{operand_of}
 -- a branch or an end, and no way
 abbrev pub is_mark : WorkingRecord → Bool
 is_mark (record_of.Way left) = false
-is_mark (record_of.Branch p l) = true
-is_mark (record_of.End n) = true
+is_mark _ = true
 
 -- two branches of one node by one literal, or two ends at one node
 abbrev pub same_mark : WorkingRecord → WorkingRecord → Bool
@@ -32,11 +32,6 @@ branch_at n l = record_of.Branch (record { 0 = n }) l
 abbrev pub end_at : ℕ → WorkingRecord
 end_at n = record_of.End (record { 0 = n })
 
--- the node that a mark leads to, where the first record leads to node n
-abbrev pub node_from : ℕ → List WorkingRecord → WorkingRecord → Option ℕ
-node_from n [] r = None
-node_from n (q ∷ rs) r = choose (same_mark q r) (Some n) (node_from (n + 1) rs r)
-
 -- a node, and the records then
 pub record Reached : Type 0 where
   pub node : ℕ
@@ -46,14 +41,14 @@ pub record Reached : Type 0 where
 abbrev pub reached : ℕ → List WorkingRecord → Reached
 reached n rs = record { node = n; records = rs }
 
--- the node that was found, or the mark behind the records and the node that it then leads to
+-- the node behind the place that was found, or the mark behind the records and the node that it then leads to
 abbrev pub or_put : Option ℕ → WorkingRecord → List WorkingRecord → Reached
-or_put (Some n) r rs = reached n rs
+or_put (Some i) r rs = reached (i + 1) rs
 or_put None r rs = reached (length rs + 1) (rs ++ r ∷ [])
 
 -- the node that a mark leads to; the mark comes behind the records where it is not there
 abbrev pub reaching : WorkingRecord → List WorkingRecord → Reached
-reaching r rs = or_put (node_from 1 rs r) r rs
+reaching r rs = or_put (position (λ q. same_mark q r) rs) r rs
 
 -- the records once a way from node n on is among them
 abbrev pub entering : Way → ℕ → List WorkingRecord → List WorkingRecord
@@ -67,13 +62,12 @@ entering_all (w ∷ ws) rs = entering_all ws (entering w 0 rs)
 
 -- whether a way ends at node n
 abbrev pub ended : List WorkingRecord → ℕ → Bool
-ended rs n = is_some (node_from 1 rs (end_at n))
+ended rs n = list_any (λ q. same_mark q (end_at n)) rs
 
 -- the literal, where the record is a branch of node n
 abbrev pub branch_of : ℕ → WorkingRecord → Option Literal
-branch_of n (record_of.Way left) = None
 branch_of n (record_of.Branch p l) = choose (p.0 == n) (Some l) None
-branch_of n (record_of.End m) = None
+branch_of n _ = None
 
 -- one record: of a branch by l what is below it, then the meet, then the join with what came before; any other is passed over
 abbrev pub turn_by : ℕ → Writing → Operand → (Operand → Writing) → Option Literal → Writing

@@ -98,7 +98,7 @@ impl Trie<'_> {
     fn is_ended(&self, node: Node) -> bool
         ensures { result ≡ ended (marks self.now) node.0 }
     {
-        find_first(self.marks(), &WorkingRecord::End { node }).is_some()
+        self.marks().contains(&WorkingRecord::End { node })
     }
 
     /// What is below the node, so many literals deep: each of its branches in turn, and of each what is below it first.
@@ -140,6 +140,7 @@ impl Writer for NodeMerging {
         room: &mut [WorkingRecord],
         draft: &mut Draft<'_>,
     ) -> Result<Operand, LimitReached> {
+        // No way is longer than its literals and the others are together, and the room holds as many.
         let height = room.len();
         let mut trie = Trie {
             records: room,

@@ -11,26 +11,34 @@ use Rattle.merging.proofs.trie.Trie.+merge.Goals.{in-Some+in_ok-below+in_ok-met+
 
 pub returns-in_err-below : goal.returns-in_err-below
 returns-in_err-below t c =
-    below_breaks (c.args.height - 1) c.args.node.0 _ c.loop-place.place c.loop-place.sofar c.loop-place.invariant c.marks-mark-items.ensures c.loop-place-test.true _ c.in-Some.literal _ c.in-Some.ensures refl c.from_residual.result c.from_residual.ensures.0 c.in_err-below.ensures
+    let at = c.loop-place in
+    below_breaks (c.args.height - 1) c.args.node.0 _ at.place at.sofar at.invariant c.marks-mark-items.ensures c.loop-place-test.true _ c.in-Some.ensures refl
+    _ c.from_residual.ensures.0 c.in_err-below.ensures
 
 pub returns-in_err-met : goal.returns-in_err-met
 returns-in_err-met t c =
-    met_breaks (c.args.height - 1) c.args.node.0 _ c.loop-place.place c.loop-place.sofar c.loop-place.invariant c.marks-mark-items.ensures c.loop-place-test.true _ c.in-Some.literal _ c.in-Some.ensures c.from.ensures c.in_ok-below.ensures c.from_residual-in_err-met.result c.from_residual-in_err-met.ensures.0 c.in_err-met.ensures
+    let at = c.loop-place in
+    met_breaks (c.args.height - 1) c.args.node.0 _ at.place at.sofar at.invariant c.marks-mark-items.ensures c.loop-place-test.true _ c.in-Some.ensures c.from.ensures
+    c.in_ok-below.ensures _ c.from_residual-in_err-met.ensures.0 c.in_err-met.ensures
 
 pub returns-in_err-sofar : goal.returns-in_err-sofar
 returns-in_err-sofar t c =
-    join_breaks (c.args.height - 1) c.args.node.0 _ c.loop-place.place c.loop-place.sofar c.loop-place.invariant c.marks-mark-items.ensures c.loop-place-test.true _ c.in-Some.literal _ c.in-Some.ensures c.from.ensures c.in_ok-below.ensures c.in_ok-met.ensures c.from_residual-in_err-sofar.result c.from_residual-in_err-sofar.ensures.0 c.in_err-sofar.ensures
+    let at = c.loop-place in
+    join_breaks (c.args.height - 1) c.args.node.0 _ at.place at.sofar at.invariant c.marks-mark-items.ensures c.loop-place-test.true _ c.in-Some.ensures c.from.ensures
+    c.in_ok-below.ensures c.in_ok-met.ensures _ c.from_residual-in_err-sofar.ensures.0 c.in_err-sofar.ensures
 
 pub loop-place-preserved : goal.loop-place-preserved
 loop-place-preserved t c =
     let h = c.args.height - 1 in
-    let rs = marks c.args.self.now in
     let node = c.args.node.0 in
-    let i = c.loop-place.place in
+    let at = c.loop-place in
     let limit = c.args.draft.now.limit in
-    let rest : Operand → Writing = λ j. join_at limit (merge_at limit h rs) node (i + 1) j (drop (i + 1) rs) in
+    let rs = marks c.args.self.now in
+    let rest : Operand → Writing = λ j. join_at limit (merge_at limit h rs) node (at.place + 1) j (drop (at.place + 1) rs) in
     elim c.match-branch_of.branch [
       | in-Some+in_ok-below+in_ok-met+in_ok-sofar w ↦
-          moved rest w.draft-is w.sofar-is (joins h node rs i c.loop-place.sofar c.loop-place.invariant c.marks-mark-items.ensures c.loop-place-test.true _ w.in-Some.literal _ w.in-Some.ensures w.from.ensures w.in_ok-below.ensures w.in_ok-met.ensures w.in_ok-sofar.ensures)
-      | in_default w ↦ moved rest w.draft-is w.sofar-is (passes h node rs i c.loop-place.sofar c.loop-place.invariant c.marks-mark-items.ensures c.loop-place-test.true _ w.in_default.ensures)
+          moved rest w.draft-is w.sofar-is
+          (joins h node _ at.place at.sofar at.invariant c.marks-mark-items.ensures c.loop-place-test.true _ w.in-Some.ensures w.from.ensures w.in_ok-below.ensures w.in_ok-met.ensures w.in_ok-sofar.ensures)
+      | in_default w ↦
+          moved rest w.draft-is w.sofar-is (passes h node _ at.place at.sofar at.invariant c.marks-mark-items.ensures c.loop-place-test.true _ w.in_default.ensures)
     ]
