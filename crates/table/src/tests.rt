@@ -1,34 +1,29 @@
 use crate::read::read;
-use rack::refusal::{ColumnNumber, LineNumber, Position};
+use rack::refusal::{ColumnNumber, LineNumber, Position, Refusal};
 use rack::way::WayRecord;
 use std::process::Abort;
 
-/// Reads a text into two records, and answers the number, line and column of its refusal; zeros where it is accepted.
-fn told(text: &[u8]) -> (u8, usize, usize) {
+/// The refusal of a text that is read into two records, if it is refused.
+fn told(text: &[u8]) -> Option<Refusal> {
     let mut records = [WayRecord::BLANK; 2];
     match read(&mut records, text) {
-        Ok(_) => (0, 0, 0),
-        Err(unread) => match unread.refusal.position() {
-            Some(
-                Position {
-                    line: LineNumber(line),
-                    column: ColumnNumber(column),
-                },
-            ) => (unread.refusal.number(), line, column),
-            None => (unread.refusal.number(), 0, 0),
-        },
+        Ok(_) => None,
+        Err(unread) => Some(unread.refusal),
     }
 }
 
 fn expect(rt: &impl Abort, text: &[u8], number: u8, line: usize, column: usize) {
-    let (n, l, c) = told(text);
-    assert_eq!(rt; n, number);
-    assert_eq!(rt; l, line);
-    assert_eq!(rt; c, column);
+    let position = Position {
+        line: LineNumber(line),
+        column: ColumnNumber(column),
+    };
+    let refusal = told(text);
+    assert_eq!(rt; refusal.map(|refusal| refusal.number()), Some(number));
+    assert!(rt; refusal.and_then(|refusal| refusal.position()) == Some(position));
 }
 
 fn accepted(rt: &impl Abort, text: &[u8]) {
-    expect(rt, text, 0, 0, 0);
+    assert!(rt; told(text).is_none());
 }
 
 #[test]
