@@ -18,7 +18,7 @@ fn work_out<A: BooleanAlgebra>(
     elements: &mut [A],
 ) -> usize
     requires { length definitions.now ≤ length elements.old }
-    ensures { WorkedOut A.algebra A.value definitions.now settings.now.elements.now elements.old elements.new result }
+    ensures { WorkedOut A.algebra A.value definitions.now settings.now elements.old elements.new result }
 {
     // Kept: that one loop over the definitions with their index runs the operations and counts them is a rule of the project.
     let mut operations = 0;

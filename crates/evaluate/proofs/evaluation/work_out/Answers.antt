@@ -21,7 +21,7 @@ loop-i-preserved g c =
 pub returns : goal.returns
 returns g c =
     let m = g.A.BooleanAlgebra in
-    let s = settings_of m.algebra (map m.value c.args.settings.now.elements.now) in
+    let s = settings_of m.algebra (map m.value c.args.settings.now) in
     let i = c.loop-i.i in
     let after = c.loop-i.elements in
     let ds = c.args.definitions.now in

@@ -7,4 +7,4 @@ use Rattle.evaluate.proofs.evaluation.work_out.Given as goal
 abbrev pub invariant-loop-i : goal.invariant-loop-i
 invariant-loop-i g l =
     let m = g.A.BooleanAlgebra in
-    Underway m.algebra m.value (settings_of m.algebra (map m.value l.settings.elements.now)) l.definitions l.initial.elements l.elements l.i l.operations
+    Underway m.algebra m.value (settings_of m.algebra (map m.value l.settings)) l.definitions l.initial.elements l.elements l.i l.operations
