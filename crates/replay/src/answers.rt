@@ -41,6 +41,7 @@ impl Drop for OpenDelivery<'_> {
 }
 
 impl<'s> OpenDelivery<'s> {
+    /// The delivery, which has to be closed or struck.
     fn into_inner(self) -> Delivery<'s> {
         let OpenDelivery(delivery) = self;
         delivery

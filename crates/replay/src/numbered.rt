@@ -6,12 +6,15 @@ use text::lines::cut;
 use words::hexadecimal;
 
 /// An algebra whose elements a line can write and read as numbers.
+// Kept: a trait of its own, since the algebras are another crate's types and can have no `From` and no `Display` here.
 pub trait Numbered: BooleanAlgebra {
     /// How many digits an element is written with.
     const DIGITS: usize;
 
+    /// The element of a number.
     fn of(bits: u64) -> Self;
 
+    /// The number of an element.
     fn bits(self) -> u64;
 }
 

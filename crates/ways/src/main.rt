@@ -1,6 +1,7 @@
 //! Reads a table on standard input, and writes its merged delivery, or the line that tells its first refusal, on standard output.
 #![tactic(auto)]
 
+use definitions::operand::CAPACITY;
 use methods::translate::Method;
 use preprocess::answer::answer;
 use rack::way::WayRecord;
@@ -23,7 +24,7 @@ fn main(rt: HostRuntime) -> io::Result<()> {
     answer(
         &text,
         Method::NodeMerging,
-        4096,
+        CAPACITY,
         &mut records,
         &mut work,
         &mut out,

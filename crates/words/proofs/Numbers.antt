@@ -1,11 +1,16 @@
 -- Numbers digit by digit: the next digit comes off the digits that are left, a number that is too large stays so, and so many hexadecimal
 -- digits stand for less than their power of 16.
-use Rattle.std.proofs.Common.{◌≡◌, ℕ, ◌+◌, ◌-◌, ◌*◌, ◌^◌, ◌<◌, ◌≤◌, min, Bool, true, false, cond, ◌&&◌, leb, nat_lt, List, [], ◌∷◌, length, get_or, drop, Some, None, Option, sym, refl, ap, ◌∙◌, subst, arith, mul_assoc}
-use Rattle.std.proofs.lemmas.Bool.{leb-true, leb-false, and_parts, lt-ltb, le-ltb}
+use Rattle.std.proofs.Common.{◌≡◌, ℕ, ◌+◌, ◌*◌, ◌^◌, ◌<◌, ◌≤◌, min, Bool, true, false, cond, leb, nat_lt, List, [], ◌∷◌, length, get_or, drop, Some, None, Option, sym, refl, ap, ◌∙◌, subst, arith, mul_assoc}
+use Rattle.std.proofs.lemmas.Bool.Decides.{nat_tests}
+use Rattle.std.proofs.lemmas.Bool.{leb-true, leb-false, lt-ltb, le-ltb}
 use Rattle.std.proofs.lemmas.List.{at_drop_more}
 use Rattle.std.proofs.Math.Nat.{le-mul_of_pos_right, pow-succ', pow-le-pow_right}
 use Rattle.rack.specs.Hex.{digit_of}
 use Rattle.words.specs.Words.{number_behind, digit_below, capped, hexadecimal_of}
+
+-- the largest of a u64
+abbrev most : ℕ
+most = 18446744073709551615
 
 abbrev by_digit : (ℕ → Option ℕ) → ℕ → ℕ → List ℕ → Option ℕ → Option ℕ
 by_digit digit base n bs o = elim o [ Some d ↦ number_behind digit base (n * base + d) bs | None ↦ None ]
@@ -15,28 +20,23 @@ pub one_more : (digit : ℕ → Option ℕ) (base n : ℕ) (w : List ℕ) (i b d
 one_more digit base n w i b d h e = at_drop_more (number_behind digit base n) w i b h ∙ ap (by_digit digit base n (drop (i + 1) w)) (sym e)
 
 -- numbers that are the same or both too large stay so
-pub capped_alike : (digit : ℕ → Option ℕ) (base m n : ℕ) (w : List ℕ) → 0 < base → min m 18446744073709551615 ≡ min n 18446744073709551615 → capped (number_behind digit base m w) ≡ capped (number_behind digit base n w)
+pub capped_alike : (digit : ℕ → Option ℕ) (base m n : ℕ) (w : List ℕ) → 0 < base → min m most ≡ min n most → capped (number_behind digit base m w) ≡ capped (number_behind digit base n w)
 capped_alike digit base m n [] some e = ap (λ (k : ℕ). Some k) e
-capped_alike digit base m n (b ∷ w) some e = go (λ d. capped_alike digit base (m * base + d) (n * base + d) w some (one_on d (leb 18446744073709551615 m) refl)) (digit b)
+capped_alike digit base m n (b ∷ w) some e = go (λ d. capped_alike digit base (m * base + d) (n * base + d) w some (one_on d (leb most m) refl)) (digit b)
   where
-    both : (s t d : ℕ) → 18446744073709551615 ≤ s → 18446744073709551615 ≤ t → min (s + d) 18446744073709551615 ≡ min (t + d) 18446744073709551615
-    both s t d h k = omega (arith, h, k)
-
-    one_on : (d : ℕ) (large : Bool) → leb 18446744073709551615 m ≡ large → min (m * base + d) 18446744073709551615 ≡ min (n * base + d) 18446744073709551615
-    one_on d true h =
-        let much : 18446744073709551615 ≤ m = leb-true 18446744073709551615 m h in
-        both (m * base) (n * base) d (omega (arith, much, le-mul_of_pos_right m some)) (omega (arith, e, much, le-mul_of_pos_right n some))
+    one_on : (d : ℕ) (large : Bool) → leb most m ≡ large → min (m * base + d) most ≡ min (n * base + d) most
+    one_on d true h = omega (arith, e, leb-true most m h, le-mul_of_pos_right {m = base} m some, le-mul_of_pos_right {m = base} n some)
     one_on d false h =
-        let few : m < 18446744073709551615 = leb-false 18446744073709551615 m h in
+        let few : m < most = leb-false most m h in
         let same : m ≡ n = omega (arith, e, few) in
-        ap (λ k. min (k * base + d) 18446744073709551615) same
+        ap (λ k. min (k * base + d) most) same
 
     go : ((d : ℕ) → capped (number_behind digit base (m * base + d) w) ≡ capped (number_behind digit base (n * base + d) w)) → (o : Option ℕ) → capped (by_digit digit base m w o) ≡ capped (by_digit digit base n w o)
     go on None = refl
     go on (Some d) = on d
 
 -- the next number, where a product and a sum stop at the largest
-pub saturated : (t s d r : ℕ) → s ≡ min t 18446744073709551615 → r ≡ min (s + d) 18446744073709551615 → min r 18446744073709551615 ≡ min (t + d) 18446744073709551615
+pub saturated : (t s d r : ℕ) → s ≡ min t most → r ≡ min (s + d) most → min r most ≡ min (t + d) most
 saturated t s d r e f = omega (arith, e, f)
 
 -- digits that are read alike stand for the same number
@@ -50,18 +50,7 @@ alike f g base n (b ∷ w) e = ap (by_digit f base n w) (e b) ∙ go (λ d. alik
 
 -- ---- hexadecimal digits
 small : (b d : ℕ) → Some d ≡ digit_of b → d < 16
-small b d e = go (leb 48 b && leb b 57) refl (leb 65 b && leb b 70) refl e
-  where
-    go : (t : Bool) → (leb 48 b && leb b 57) ≡ t → (u : Bool) → (leb 65 b && leb b 70) ≡ u → Some d ≡ cond t (Some (b - 48)) (cond u (Some (b - 55)) None) → d < 16
-    go true p u q f =
-        let both = and_parts (leb 48 b) (leb b 57) p in
-        let is : d ≡ b - 48 = cc in
-        omega (arith, leb-true 48 b both.0, leb-true b 57 both.1)
-    go false p true q f =
-        let both = and_parts (leb 65 b) (leb b 70) q in
-        let is : d ≡ b - 55 = cc in
-        omega (arith, leb-true 65 b both.0, leb-true b 70 both.1)
-    go false p false q f = let z : ◌≡◌ {A = ℕ} 0 1 = cc in absurd (omega arith)
+small b d e = grind (arith, nat_tests)
 
 sixteen : (b : ℕ) → digit_below 16 b ≡ digit_of b
 sixteen b = go (digit_of b) refl
@@ -98,6 +87,6 @@ hexadecimal_is w o few e = e ∙ ap capped (alike (digit_below 16) digit_of 16 0
     exact None f = refl
     exact (Some m) f =
         let fits : m < 1 * 16 ^ length w = below w 0 m 1 (omega arith) (sym f) in
-        let most : 16 ^ length w ≤ 16 ^ 16 = pow-le-pow_right (omega arith) few in
-        let is : min m 18446744073709551615 ≡ m = omega (arith, fits, most) in
+        let bound : 16 ^ length w ≤ 16 ^ 16 = pow-le-pow_right (omega arith) few in
+        let is : min m most ≡ m = omega (arith, fits, bound) in
         ap (λ (k : ℕ). Some k) is
