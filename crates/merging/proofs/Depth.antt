@@ -44,13 +44,10 @@ module _ (limit : ℕ) where
   joins_alike sub sub' ws (h ∷ hs) each sofar =
       (λ k. and_then (each h k) (λ b. and_then (combining limit Meet (operand_of h) b) (λ m. and_then (combining limit Join sofar m) (λ j. joins_alike sub sub' ws hs each j k))))
 
-  bottom : (b : ℕ) (ws : List Way) → Within 0 ws → merge_in limit 0 ws ≡ merge_in limit (suc b) ws
-  bottom b ws i = grind (arith, none_left ws i)
-
   enough : (a b : ℕ) (ws : List Way) → Within a ws → Within b ws → merge_in limit a ws ≡ merge_in limit b ws
   enough zero zero ws i j = refl
-  enough zero (suc b) ws i j = bottom b ws i
-  enough (suc a) zero ws i j = sym (bottom a ws j)
+  enough zero (suc b) ws i j = grind (arith, none_left ws i)
+  enough (suc a) zero ws i j = grind (arith, none_left ws j)
   enough (suc a) (suc b) ws i j =
       ap (choose (has_empty ws) (give Always)) (joins_alike (merge_in limit a) (merge_in limit b) ws (heads ws) (λ l. enough a b (rests_of l ws) (rests_within a l ws i) (rests_within b l ws j)) Never)
 

@@ -1,5 +1,5 @@
 -- The records that the ways were entered in hold the ways.
-use Rattle.std.proofs.Common.{◌≡◌, ℕ, ◌+◌, ◌<◌, ◌≤◌, true, ◌⊎◌, List, [], ◌∷◌, ◌++◌, length, get_or, sym, refl, ap, ◌∙◌, subst, inl, inr, append_assoc, append-nil, arith}
+use Rattle.std.proofs.Common.{◌≡◌, ℕ, ◌+◌, ◌<◌, ◌≤◌, true, ◌⊎◌, List, [], ◌∷◌, ◌++◌, length, get_or, sym, refl, ap, ◌∙◌, inl, inr, append_assoc, append-nil, arith}
 use Rattle.std.proofs.lemmas.List.{length_push, length-map, get_or-map, map-append}
 use Rattle.rack.specs.Way.{Way}
 use Rattle.rack.specs.First.{FirstAt, Nowhere}
@@ -50,31 +50,31 @@ turn R S ws v m l k (inl x) p =
     let i = x.1.0 in
     let il = x.1.2 in
     let same = x.1.3 in
-    subst (λ T. Partly T ws (v ++ l ∷ []) k) (sym x.0) (record {
+    rw x.0 (record {
       path = p.path;
       fits = way_follows R p.path ws v m l i p.fits p.inside p.at il (ap (λ b. b.parent) same) (ap (λ b. b.label) same);
       inside = omega (arith, x.1.1, il);
-      at = ap p.path x.1.1 ∙ p.fits.step i il ∙ (λ j. p.path (same j).parent ++ (same j).label ∷ []) ∙ ap (λ q. q ++ l ∷ []) p.at;
+      at = grind (arith, x.1.1, p.fits.step i il, same, p.at);
     })
 turn R S ws v m l k (inr x) p =
     let new : (i : ℕ) → i < length R → (get_or R i none).parent ≡ m → (get_or R i none).label ≡ l → ⊥ = λ i il a b. x.2 i il (λ j. record { parent = a j; label = b j }) in
-    subst (λ T. Partly T ws (v ++ l ∷ []) k) (sym x.0) (record {
+    rw x.0 (record {
       path = paths_with (length R + 1) (v ++ l ∷ []) p.path;
       fits = way_grows R p.path ws v m l p.fits p.inside p.at new;
       inside = omega (arith, x.1, length_push R (link m l));
-      at = ap (paths_with (length R + 1) (v ++ l ∷ []) p.path) x.1 ∙ newest R p.path ws v m l p.fits p.inside p.at new;
+      at = rw x.1 (newest R p.path ws v m l p.fits p.inside p.at new);
     })
 
 on : (w : Way) (R : List WorkingRecord) (ws : List Word) (v : Word) (m : ℕ) → Partly (views R) ws v m → Filled (views (entering w m R)) (ws ++ (v ++ whole w) ∷ [])
 on [] R ws v m p = last _ ws (v ++ end ∷ []) _ (turn (views R) _ ws v m end _ (placed R (end_at m) refl) p)
 on (l ∷ w) R ws v m p =
-    subst (λ x. Filled (views (entering (l ∷ w) m R)) (ws ++ x ∷ [])) (append_assoc v (lit l ∷ []) (whole w))
+    rw (← append_assoc v (lit l ∷ []) (whole w))
     (on w (reaching (branch_at m l) R).records ws (v ++ lit l ∷ []) (reaching (branch_at m l) R).node (turn (views R) _ ws v m (lit l) _ (placed R (branch_at m l) refl) p))
 
 all : (us : List Way) (R : List WorkingRecord) (ws : List Word) → Filled (views R) ws → Filled (views (entering_all us R)) (ws ++ wholes us)
-all [] R ws f = subst (Filled (views R)) (sym (append-nil ws)) f
+all [] R ws f = rw append-nil f
 all (u ∷ us) R ws f =
-    subst (Filled (views (entering_all (u ∷ us) R))) (append_assoc ws (whole u ∷ []) (wholes us))
+    rw (← append_assoc ws (whole u ∷ []) (wholes us))
     (all us (entering u 0 R) (ws ++ whole u ∷ []) (on u R ws [] 0 (first (views R) ws f)))
 
 empty : Filled [] []

@@ -1,4 +1,4 @@
-ghost use Rattle.std.specs.Prelude.{◌≡◌, ◌+◌, ◌<◌, ◌≤◌, true, length};
+ghost use Rattle.std.specs.Prelude.{◌≡◌, ◌+◌, ◌<◌, ◌≤◌, IsTrue, length};
 ghost use Rattle.definitions.specs.Writing.{Wrote};
 ghost use Rattle.working.specs.Records.{left_in, way_in, ways_in, size};
 ghost use Rattle.merging.specs.Merging.{merging};
@@ -52,7 +52,7 @@ impl Trie<'_> {
 
     /// The node that a branch or an end leads to; it comes behind the others where it is not among them.
     fn reach(&mut self, mark: WorkingRecord) -> Node
-        requires mark { is_mark mark ≡ true }
+        requires mark { IsTrue (is_mark mark) }
         requires room { 0 < spare self.old }
         ensures room { spare self.old ≤ spare self.new + 1 }
         ensures node { result.0 ≡ (reaching mark (marks self.old)).node }
@@ -140,7 +140,7 @@ impl Writer for NodeMerging {
         room: &mut [WorkingRecord],
         draft: &mut Draft<'_>,
     ) -> Result<Operand, LimitReached> {
-        // No way is longer than its literals and the others are together, and the room holds as many.
+        // The room has a record for each literal of the ways, so no way is longer.
         let height = room.len();
         let mut trie = Trie {
             records: room,
