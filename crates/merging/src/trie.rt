@@ -1,6 +1,6 @@
 ghost use Rattle.std.specs.Prelude.{◌≡◌, ◌+◌, ◌<◌, ◌≤◌, IsTrue, length};
 ghost use Rattle.definitions.specs.Writing.{Wrote};
-ghost use Rattle.working.specs.Records.{left_in, way_in, ways_in, size};
+ghost use Rattle.working.specs.Records.{left_in, ways_in, size};
 ghost use Rattle.merging.specs.Merging.{merging};
 ghost use Rattle.merging.specs.Trie.{is_mark, branch_of, ended, reaching, entering, entering_all, merge_at};
 
@@ -10,16 +10,6 @@ use rack::find::find_first;
 use rack::part::Literal;
 use working::record::{Node, WorkingRecord};
 use working::rule::Writer;
-
-/// The places of a way, and of a record that is no way none.
-fn places(way: &WorkingRecord) -> &[Option<Literal>]
-    ensures { left_in result.now ≡ way_in way.now }
-{
-    match way {
-        WorkingRecord::Way { left } => left,
-        _ => &[],
-    }
-}
 
 /// The literal, where the mark is a branch of the node.
 fn branch_of(mark: &WorkingRecord, node: Node) -> Option<Literal>
@@ -90,7 +80,7 @@ impl Trie<'_> {
         ensures { marks self.new ≡ entering_all (ways_in ways.now) (marks self.old) }
     {
         for way in ways {
-            self.enter(places(way));
+            self.enter(way.places());
         }
     }
 

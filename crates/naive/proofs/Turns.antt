@@ -9,7 +9,7 @@ use Rattle.definitions.specs.declared.operand.Operand.TheVariants.{Always}
 use Rattle.definitions.specs.declared.draft.Draft.{Draft}
 use Rattle.definitions.specs.declared.draft.LimitReached.{LimitReached}
 use Rattle.definitions.specs.Writing.{Wrote}
-use Rattle.definitions.proofs.Written.{at_first_limit, Underway, renamed, goes_on, breaks}
+use Rattle.definitions.proofs.Written.{at_first_limit, like, Underway, renamed, goes_on, breaks}
 use Rattle.definitions.specs.Combine.{Writing, give, and_then, combining}
 use Rattle.working.specs.declared.record.WorkingRecord.{WorkingRecord}
 use Rattle.working.specs.declared.record.WorkingRecord.TheVariants as record_of
@@ -53,11 +53,13 @@ module _ {was now : Draft} {whole : Writing} (sofar : Operand) (rs : List Workin
   turn : Underway was now (and_then (meeting was.limit Always (way_at rs i)) (then_joined was.limit sofar rs i)) whole
   turn = renamed (sym (at_way was.limit sofar rs i lt)) so
 
-  pub met : {mid : Draft} {x : Operand} → Wrote now mid (Ok x) (meeting now.limit Always (way_at rs i)) → Underway was mid (then_joined was.limit sofar rs i x) whole
-  met w = goes_on (then_joined was.limit sofar rs i) turn (at_first_limit (λ k. meeting k Always (way_at rs i)) so.grown w)
+  -- v are the literals in its places
+  module _ {v : Way} (e : v ≡ way_at rs i) where
+    pub met : {mid : Draft} {x : Operand} → Wrote now mid (Ok x) (meeting now.limit Always v) → Underway was mid (then_joined was.limit sofar rs i x) whole
+    met w = goes_on (then_joined was.limit sofar rs i) turn (at_first_limit (λ k. meeting k Always (way_at rs i)) so.grown (like (ap (meeting now.limit Always) (sym e)) w))
 
-  pub not_met : {mid : Draft} {e : LimitReached} (q : Result Operand LimitReached) → is_err q ≡ true → Wrote now mid (Err e) (meeting now.limit Always (way_at rs i)) → Wrote was mid q whole
-  not_met q f w = breaks q (then_joined was.limit sofar rs i) f turn (at_first_limit (λ k. meeting k Always (way_at rs i)) so.grown w)
+    pub not_met : {mid : Draft} {f : LimitReached} (q : Result Operand LimitReached) → is_err q ≡ true → Wrote now mid (Err f) (meeting now.limit Always v) → Wrote was mid q whole
+    not_met q f w = breaks q (then_joined was.limit sofar rs i) f turn (at_first_limit (λ k. meeting k Always (way_at rs i)) so.grown (like (ap (meeting now.limit Always) (sym e)) w))
 
 module _ {was mid : Draft} {whole : Writing} (sofar : Operand) (rs : List WorkingRecord) (i : ℕ) (x : Operand) (so : Underway was mid (then_joined was.limit sofar rs i x) whole) where
   pub joined : {next : Draft} {j : Operand} → Wrote mid next (Ok j) (combining mid.limit Join sofar x) → Underway was next (joined_from was.limit j rs (i + 1)) whole

@@ -1,6 +1,6 @@
 ghost use Rattle.definitions.specs.declared.operand.Operand.TheVariants.{Never, Always};
 ghost use Rattle.definitions.specs.Writing.{Wrote};
-ghost use Rattle.working.specs.Records.{left_in, way_in, ways_in};
+ghost use Rattle.working.specs.Records.{left_in, ways_in};
 ghost use Rattle.naive.specs.Naive.{meeting, joining, naively};
 
 use definitions::draft::{Draft, LimitReached};
@@ -22,23 +22,13 @@ fn meet_places(left: &[Option<Literal>], draft: &mut Draft<'_>) -> Result<Operan
     Ok(sofar)
 }
 
-/// The meet of the literals of a way.
-fn meet_way(way: &WorkingRecord, draft: &mut Draft<'_>) -> Result<Operand, LimitReached>
-    ensures { Wrote draft.old draft.new result (meeting draft.old.limit Always (way_in way.now)) }
-{
-    match way {
-        WorkingRecord::Way { left } => meet_places(left, draft),
-        _ => Ok(Operand::Always),
-    }
-}
-
 /// The join of the meets of the ways, from the left, beginning with never.
 fn join_ways(list: &[WorkingRecord], draft: &mut Draft<'_>) -> Result<Operand, LimitReached>
     ensures { Wrote draft.old draft.new result (joining draft.old.limit Never (ways_in list.now)) }
 {
     let mut sofar = Operand::Never;
     for record in list {
-        let met = meet_way(record, draft)?;
+        let met = meet_places(record.places(), draft)?;
         sofar = draft.combine(Operator::Join, sofar, met)?;
     }
     Ok(sofar)

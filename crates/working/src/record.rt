@@ -84,24 +84,28 @@ fn clear(left: &mut [Option<Literal>], gone: Literal)
 }
 
 impl WorkingRecord {
+    /// The places of the way; a record that is no way has none.
+    pub fn places(&self) -> &[Option<Literal>]
+        ensures { left_in result.now ≡ way_in self.now }
+    {
+        match self {
+            WorkingRecord::Way { left } => left,
+            _ => &[],
+        }
+    }
+
     /// The first literal that is left of the way.
     pub fn first(&self) -> Option<Literal>
         ensures { result ≡ first_of (way_in self.now) }
     {
-        match self {
-            WorkingRecord::Way { left } => first_in(left),
-            _ => None,
-        }
+        first_in(self.places())
     }
 
     /// Whether the literal is left of the way.
     pub fn holds(&self, wanted: Literal) -> bool
         ensures { result ≡ held wanted (way_in self.now) }
     {
-        match self {
-            WorkingRecord::Way { left } => held_in(left, wanted),
-            _ => false,
-        }
+        held_in(self.places(), wanted)
     }
 
     /// The way without the literal.
