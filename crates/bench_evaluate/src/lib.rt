@@ -29,9 +29,11 @@ fn write(script: &mut Script, i: usize, last: Operand) -> Operand {
     } else {
         Operator::Meet
     };
-    script
-        .combine(operator, earlier(i, last), second)
-        .unwrap_or(last)
+    // Kept: with `unwrap_or(last)` the timed loop is laid out otherwise, and an evaluation takes a tenth longer.
+    match script.combine(operator, earlier(i, last), second) {
+        Ok(operand) => operand,
+        Err(_) => last,
+    }
 }
 
 /// Builds the script, evaluates its last definition in each round, and answers what the rounds gave, folded into one number. A round
