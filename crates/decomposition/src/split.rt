@@ -1,15 +1,18 @@
 ghost use Rattle.std.specs.Prelude.{◌≡◌, ◌≤◌, length, take};
-ghost use Rattle.table.specs.Kept.{literals};
+ghost use Rattle.table.specs.Kept.{literals, ways_of};
 ghost use Rattle.definitions.specs.Writing.{Wrote};
 ghost use Rattle.working.specs.Records.{ways_in};
+ghost use Rattle.working.specs.Translation.{Translated};
 ghost use Rattle.decomposition.specs.Decomposition.{under, beside, start_of, closing, decomposing};
 
 use definitions::draft::{Draft, LimitReached};
 use definitions::operand::{Operand, Operator};
 use rack::part::{Literal, Part, Sign};
+use rack::refusal::Refusal;
+use rack::way::WayRecord;
 use std::ops::ControlFlow;
 use working::record::WorkingRecord;
-use working::rule::Writer;
+use working::rule::{Writer, translate_by};
 
 /// The part of the first literal of the first way; or the constant that the ways are worth at once: always where a way has no literal
 /// left, and never where there is no way.
@@ -105,9 +108,9 @@ fn decompose(
 
 /// The method that writes the ways by the part that comes first in them.
 #[derive(Clone, Copy)]
-pub struct Decomposition;
+struct ByPart;
 
-impl Writer for Decomposition {
+impl Writer for ByPart {
     ghost rule = { decomposing };
 
     fn write(
@@ -117,4 +120,16 @@ impl Writer for Decomposition {
     ) -> Result<Operand, LimitReached> {
         decompose(ways, room, draft)
     }
+}
+
+/// Writes the kept ways by the part that comes first behind the definitions of the draft, and answers the operand and the number of
+/// definitions added. Refuses where the working records are short (13), or where a new definition is due and the limit is reached (10).
+pub fn decomposition(
+    ways: &[WayRecord],
+    work: &mut [WorkingRecord],
+    draft: &mut Draft<'_>,
+) -> Result<(Operand, usize), Refusal>
+    ensures { Translated decomposing (ways_of ways.now) work.old work.new draft.old draft.new result }
+{
+    translate_by::<ByPart>(ways, work, draft)
 }

@@ -1,6 +1,8 @@
 ghost use Rattle.std.specs.Prelude.{◌≡◌, ◌+◌, ◌<◌, ◌≤◌, IsTrue, length};
+ghost use Rattle.table.specs.Kept.{ways_of};
 ghost use Rattle.definitions.specs.Writing.{Wrote};
 ghost use Rattle.working.specs.Records.{left_in, ways_in, size};
+ghost use Rattle.working.specs.Translation.{Translated};
 ghost use Rattle.merging.specs.Merging.{merging};
 ghost use Rattle.merging.specs.Trie.{is_mark, branch_of, ended, reaching, entering, entering_all, merge_at};
 
@@ -8,8 +10,10 @@ use definitions::draft::{Draft, LimitReached};
 use definitions::operand::{Operand, Operator};
 use rack::find::find_first;
 use rack::part::Literal;
+use rack::refusal::Refusal;
+use rack::way::WayRecord;
 use working::record::{Node, WorkingRecord};
-use working::rule::Writer;
+use working::rule::{Writer, translate_by};
 
 /// The literal, where the mark is a branch of the node.
 fn branch_of(mark: &WorkingRecord, node: Node) -> Option<Literal>
@@ -120,9 +124,9 @@ impl Trie<'_> {
 
 /// Merging: ways with a common beginning are written together, by a trie of the ways in the room behind them.
 #[derive(Clone, Copy)]
-pub struct NodeMerging;
+struct ByBeginning;
 
-impl Writer for NodeMerging {
+impl Writer for ByBeginning {
     ghost rule = { merging };
 
     fn write(
@@ -139,4 +143,16 @@ impl Writer for NodeMerging {
         trie.fill(ways);
         trie.merge(Node::ROOT, height, draft)
     }
+}
+
+/// Writes the kept ways by their common beginnings behind the definitions of the draft, and answers the operand and the number of
+/// definitions added. Refuses where the working records are short (13), or where a new definition is due and the limit is reached (10).
+pub fn node_merging(
+    ways: &[WayRecord],
+    work: &mut [WorkingRecord],
+    draft: &mut Draft<'_>,
+) -> Result<(Operand, usize), Refusal>
+    ensures { Translated merging (ways_of ways.now) work.old work.new draft.old draft.new result }
+{
+    translate_by::<ByBeginning>(ways, work, draft)
 }

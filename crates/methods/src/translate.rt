@@ -2,16 +2,15 @@ ghost use Rattle.table.specs.Kept.{ways_of};
 ghost use Rattle.working.specs.Translation.{Translated};
 ghost use Rattle.methods.specs.Methods.{rule_of, RolledBack, Settled};
 
-use decomposition::split::Decomposition;
+use decomposition::split::decomposition;
 use definitions::draft::Draft;
 use definitions::operand::Operand;
-use merging::trie::NodeMerging;
-use naive::plain::Naive;
+use merging::trie::node_merging;
+use naive::plain::naive;
 use rack::refusal::Refusal;
 use rack::way::WayRecord;
 use table::table::Table;
 use working::record::WorkingRecord;
-use working::rule::translate_by;
 
 /// How ways become definitions.
 #[derive(Clone, Copy, PartialEq)]
@@ -51,9 +50,9 @@ fn by_method(
     ensures { Translated (rule_of method) (ways_of ways.now) work.old work.new draft.old draft.new result }
 {
     match method {
-        Method::Naive => translate_by::<Naive>(ways, work, draft),
-        Method::Decomposition => translate_by::<Decomposition>(ways, work, draft),
-        Method::NodeMerging => translate_by::<NodeMerging>(ways, work, draft),
+        Method::Naive => naive(ways, work, draft),
+        Method::Decomposition => decomposition(ways, work, draft),
+        Method::NodeMerging => node_merging(ways, work, draft),
     }
 }
 

@@ -5,7 +5,7 @@ use Rattle.working.specs.Records.{ways_in}
 use Rattle.merging.specs.Trie.{merge_at}
 use Rattle.merging.proofs.Linked.{linked}
 use Rattle.merging.proofs.Depth.{deep_enough}
-use Rattle.merging.proofs.trie.NodeMergingWriter.write.Goals as goal
+use Rattle.merging.proofs.trie.ByBeginningWriter.write.Goals as goal
 
 pub returns : goal.returns
 returns c =
