@@ -1,3 +1,4 @@
+ghost use Rattle.std.specs.Prelude.{◌≡◌, true, false, not, ◌&&◌, ◌||◌};
 ghost use Rattle.algebra.specs.Models.{one_state};
 ghost use Rattle.std.proofs.Common.{rules};
 
@@ -18,27 +19,37 @@ impl BooleanAlgebra for OneState {
 
     ghost complemented = { Prim.search rules };
 
-    fn bottom() -> OneState {
+    fn bottom() -> OneState
+        ensures { result.holds ≡ false }
+    {
         OneState { holds: false }
     }
 
-    fn top() -> OneState {
+    fn top() -> OneState
+        ensures { result.holds ≡ true }
+    {
         OneState { holds: true }
     }
 
-    fn meet(self, other: OneState) -> OneState {
+    fn meet(self, other: OneState) -> OneState
+        ensures { result.holds ≡ (self.holds && other.holds) }
+    {
         OneState {
             holds: self.holds & other.holds,
         }
     }
 
-    fn join(self, other: OneState) -> OneState {
+    fn join(self, other: OneState) -> OneState
+        ensures { result.holds ≡ (self.holds || other.holds) }
+    {
         OneState {
             holds: self.holds | other.holds,
         }
     }
 
-    fn complement(self) -> OneState {
+    fn complement(self) -> OneState
+        ensures { result.holds ≡ not self.holds }
+    {
         OneState { holds: !self.holds }
     }
 }

@@ -5,6 +5,7 @@ use rack::refusal::Refusal;
 
 /// Definitions under writing, in slots that are lent: the first `count` slots hold one each, and what is written goes behind them while
 /// the limit allows it. A count or a limit above 4,096 counts as 4,096.
+// Kept: slots and a count, since the libraries use no heap.
 #[derive(Drop)]
 pub struct Draft<'a> {
     pub slots: &'a mut [Definition; 4096],

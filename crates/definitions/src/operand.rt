@@ -50,6 +50,7 @@ impl Operand {
     }
 
     /// The operand's kind, as a line writes it.
+    // Kept: a kind is a number only where lines are written and read.
     pub fn kind(self) -> u8
         ensures { result ≡ kind self }
     {

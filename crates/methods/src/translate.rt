@@ -41,6 +41,7 @@ impl Drop for Rollback<'_, '_> {
 }
 
 /// The answer of the chosen method.
+// Kept: which method to use is read from a text, so that a case of an enum picks the call; a writer has no value that could be handed on.
 fn by_method(
     ways: &[WayRecord],
     method: Method,

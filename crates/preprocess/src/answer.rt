@@ -19,6 +19,7 @@ use table::read::read;
 use working::record::WorkingRecord;
 
 /// The line that tells a refusal: `7F`, its number, and the line and column of its position, zeros for none.
+// Kept: put together as an array, as the lines of a delivery are, since each byte is promised.
 pub fn refusal_line(refusal: Refusal) -> [u8; 11]
     ensures { result ≡ refusal_line refusal }
 {
@@ -46,6 +47,7 @@ fn send(delivery: &mut Delivery<'_>, start: &[u8], out: &mut Vec<u8>) -> Result<
     ensures operand { delivery.new.operand ≡ delivery.old.operand }
 {
     out.extend_from_slice(start)?;
+    // Kept: a buffer and a length, here and in `deliver`, since a delivery writes into what it is lent.
     let mut line = [0u8; LINE_BUFFER];
     while let Ok(n) = delivery.next(&mut line) {
         out.extend_from_slice(&line[0..n])?;

@@ -1,5 +1,4 @@
 ghost use Rattle.std.specs.Prelude.{◌≤◌, length};
-ghost use Rattle.text.specs.Lines.{lines_of};
 
 use crate::answers::{Answers, OpenDelivery};
 use crate::call::Call;
@@ -42,7 +41,7 @@ impl<'a> Session<'a> {
 
     /// Answers a call, and those that follow while the delivery that it begins is open.
     fn answer(&mut self, script: &mut Script, call: Call<'_>) -> io::Result<()>
-        ensures { length (lines_of self.new.lines.rest.now) ≤ length (lines_of self.old.lines.rest.now) }
+        ensures { length self.new.lines ≤ length self.old.lines }
     {
         match call {
             Call::Translate(asked) => self.answers.translate(script, asked),
@@ -64,7 +63,7 @@ impl<'a> Session<'a> {
         script: &'s Script,
         mut deliveries: Vec<OpenDelivery<'s>>,
     ) -> io::Result<()>
-        ensures { length (lines_of self.new.lines.rest.now) ≤ length (lines_of self.old.lines.rest.now) }
+        ensures { length self.new.lines ≤ length self.old.lines }
     {
         while !deliveries.is_empty()
             && let Some(line) = self.lines.next()

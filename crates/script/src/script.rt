@@ -5,6 +5,7 @@ use definitions::operand::Definition;
 
 /// A script of definitions, numbered from 1. It owns room for 4,096 and holds at most its limit; slots above the count are open. Every
 /// script is sound: no two definitions are alike, none has equal operands, and none names a constant, itself or a later one.
+// Kept: slots and a count, since the libraries use no heap.
 #[derive(Drop)]
 pub struct Script {
     pub(crate) slots: [Definition; 4096],

@@ -20,7 +20,7 @@ fn is_end(line: Line<'_>) -> bool
 
 /// Refuses the first of the lines after an end, if there is one: by its own fault (1 to 3), or as not due (4).
 fn check_tail(mut lines: Lines<'_>, number: LineNumber) -> Result<(), Refusal>
-    ensures { result ≡ tail_at number.0 (lines_of lines.entry.rest.now) }
+    ensures { result ≡ tail_at number.0 lines.entry }
 {
     let Some(bytes) = lines.next() else {
         return Ok(());
@@ -34,7 +34,7 @@ impl<'a> OpenTable<'a> {
     /// Enters the lines up to one that reads as an end, which has to close the table and to be the last. Refuses the first line that
     /// fails, and a text that has no end (4).
     fn fill(&mut self, mut lines: Lines<'_>) -> Result<(), Refusal>
-        ensures outcome { Filling self.old (lines_of lines.entry.rest.now) self.new result }
+        ensures outcome { Filling self.old lines.entry self.new result }
         ensures filled { Filled self.old self.new }
         ensures lender { self.new.records.ghost_name ≡ self.old.records.ghost_name }
     {

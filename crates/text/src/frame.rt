@@ -11,6 +11,7 @@ use rack::refusal::{Position, Refusal};
 use rack::way::WayRecord;
 
 /// A frame by its kind. It is a part of the line itself: the digits after the kind, and where they begin.
+// Kept: that a frame is one of three cases, each of which borrows its line's digits, is a rule of the project.
 #[derive(Clone, Copy)]
 pub enum Frame<'a> {
     Start { at: Position, digits: &'a [u8] },
@@ -26,6 +27,7 @@ impl<'a> Line<'a> {
         ensures short { IfOk result (λ f. length (digits_of f) ≤ 98) }
     {
         self.check()?;
+        // Kept: a buffer and how much of it is filled, here and in `way`, since the libraries use no heap.
         let mut bytes = [0u8; 50];
         let n = decode(self.bytes, &mut bytes);
         self.by_kind(&bytes[..n])

@@ -1,10 +1,18 @@
-ghost use Rattle.std.specs.Prelude.{◌≡◌};
-ghost use Rattle.text.specs.Lines.{up_to, behind};
+ghost use Rattle.std.specs.Prelude.{◌≡◌, ℕ, List};
+ghost use Rattle.text.specs.Lines.{up_to, behind, lines_of};
+
+use std::marker::Model;
 
 /// The lines of a text that are still to come, each without its 0A.
 #[derive(Drop)]
 pub struct Lines<'a> {
     rest: &'a [u8],
+}
+
+impl<'a> Model for Lines<'a> {
+    ghost Value = { List (List ℕ) };
+
+    ghost view = { λ s. lines_of s.rest.now };
 }
 
 /// A text cut at its first `mark`: the bytes before it, and the bytes behind it; all and none where there is no such byte.
@@ -21,7 +29,7 @@ pub fn cut<'a>(text: &'a [u8], mark: u8) -> (&'a [u8], &'a [u8])
 impl<'a> Lines<'a> {
     /// All lines of a text.
     pub fn new(text: &'a [u8]) -> Lines<'a>
-        ensures { result.rest.now ≡ text.now }
+        ensures { result ≡ lines_of text.now }
     {
         Lines { rest: text }
     }
@@ -29,13 +37,12 @@ impl<'a> Lines<'a> {
 
 impl<'a> Iterator for Lines<'a> {
     ghost use Rattle.std.specs.Iterator.{YieldsFirstBy, item_count};
-    ghost use Rattle.text.specs.Lines.{lines_of};
 
     type Item = &'a [u8];
 
-    ghost next_gives = { YieldsFirstBy (λ l. l.now) (λ s. lines_of s.rest.now) };
+    ghost next_gives = { YieldsFirstBy (λ l. l.now) (λ s. s) };
 
-    ghost remaining = { item_count (λ s. lines_of s.rest.now) };
+    ghost remaining = { item_count (λ s. s) };
 
     #[tactic(auto, using(crate::proofs::FirstLine::first_line))]
     fn next(&mut self) -> Option<&'a [u8]> {

@@ -1,7 +1,7 @@
 //! The words of a line, as the programs read them: methods, decimal and hexadecimal numbers, operands.
 #![tactic(auto)]
 
-ghost use Rattle.std.specs.Prelude.{◌≡◌, ◌<◌};
+ghost use Rattle.std.specs.Prelude.{◌≡◌, ℕ, ◌<◌, List};
 ghost use Rattle.text.specs.Lines.{up_to, behind};
 ghost use Rattle.definitions.specs.Operands.{operand_of_kind};
 ghost use Rattle.words.specs.Words.{space, digit_below, number_behind, capped, decimal_of, hexadecimal_of, operand_of_word, NamesMethod};
@@ -10,26 +10,33 @@ use definitions::operand::{DefinitionNumber, Operand};
 use methods::translate::Method;
 use rack::hex::digit;
 use rack::part::Part;
+use std::marker::Model;
 use text::lines::cut;
 
-/// The words of a line that are still to come, separated by one space each.
+/// What is left of a line, whose words are separated by one space each.
 #[derive(Drop)]
 pub struct Words<'a> {
     rest: &'a [u8],
 }
 
+impl<'a> Model for Words<'a> {
+    ghost Value = { List ℕ };
+
+    ghost view = { λ w. w.rest.now };
+}
+
 impl<'a> Words<'a> {
     /// All words of a line.
     pub fn new(line: &'a [u8]) -> Words<'a>
-        ensures { result.rest.now ≡ line.now }
+        ensures { result ≡ line.now }
     {
         Words { rest: line }
     }
 
     /// The next word; an empty one where the line is used up.
     pub fn next_word(&mut self) -> &'a [u8]
-        ensures word { result.now ≡ up_to space self.old.rest.now }
-        ensures rest { self.new.rest.now ≡ behind space self.old.rest.now }
+        ensures word { result.now ≡ up_to space self.old }
+        ensures rest { self.new ≡ behind space self.old }
     {
         let (word, rest) = cut(self.rest, b' ');
         self.rest = rest;
@@ -38,7 +45,7 @@ impl<'a> Words<'a> {
 
     /// What is left of the line.
     pub fn rest(&self) -> &'a [u8]
-        ensures { result.now ≡ self.now.rest.now }
+        ensures { result.now ≡ self.now }
     {
         self.rest
     }

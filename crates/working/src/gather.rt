@@ -34,6 +34,7 @@ fn whole(way: &[Literal]) -> WorkingRecord
     requires { length way.now ≤ 24 }
     ensures { way_in result ≡ way.now }
 {
+    // Kept: places are counted, here and in gather, since the check knows nothing of what is written through a zip of `iter_mut`.
     let mut left = [None; 24];
     for (i, literal) in way.iter().enumerate() {
         left[i] = Some(*literal);

@@ -17,6 +17,7 @@ impl Node {
 
 /// A record that a caller lends to a translation. It holds a way with the literals that are left of it, a branch of the trie, or
 /// the mark of a node where a way ends.
+// Kept: records of one size, and nodes by their number, since the libraries use no heap.
 #[derive(Clone, Copy, PartialEq)]
 pub enum WorkingRecord {
     Way { left: [Option<Literal>; 24] },

@@ -30,6 +30,7 @@ pub trait Writer {
 /// Translates the ways of a table by a method: writes the kept ones behind the definitions of the draft, and answers the operand and the
 /// number of definitions added. Refuses where the working records are short (13), and then writes nothing, and where a new definition is
 /// due and the limit is reached (10).
+// Kept: ways, records and draft go together, here and in the methods, since a struct of three borrows would be made only to be taken apart.
 pub fn translate_by<W: Writer>(
     ways: &[WayRecord],
     work: &mut [WorkingRecord],
