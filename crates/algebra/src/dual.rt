@@ -4,7 +4,7 @@ ghost use Rattle.algebra.specs.UpsideDown;
 use crate::boolean::BooleanAlgebra;
 
 /// An algebra read upside down: the same elements, with meet and join, and bottom and top, in each other's place.
-#[derive(Clone, Copy, PartialEq)]
+#[derive(Clone, Copy, PartialEq, Eq)]
 pub struct Dual<A> {
     pub under: A,
 }

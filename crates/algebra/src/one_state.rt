@@ -5,7 +5,7 @@ ghost use Rattle.std.proofs.Common.{rules};
 use crate::boolean::BooleanAlgebra;
 
 /// Whether something holds, in the one state that is looked at.
-#[derive(Clone, Copy, PartialEq)]
+#[derive(Clone, Copy, PartialEq, Eq)]
 pub struct OneState {
     pub holds: bool,
 }

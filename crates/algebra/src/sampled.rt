@@ -5,12 +5,12 @@ ghost use Rattle.std.proofs.Common.{rules};
 use crate::boolean::BooleanAlgebra;
 
 /// In which of 64 sampled states something holds, one state a bit.
-#[derive(Clone, Copy, PartialEq)]
+#[derive(Clone, Copy, PartialEq, Eq)]
 pub struct SampledStates {
     pub bits: u64,
 }
 
-// Kept: no one impl with OneState over std's `&`, `|` and `!`, whose traits promise no laws from which an algebra's could be proved.
+// Kept: no one impl with OneState, since std's `&`, `|` and `!` promise no laws, and a trait that does is the one that is implemented here.
 impl BooleanAlgebra for SampledStates {
     ghost algebra = { sampled };
 
@@ -61,6 +61,7 @@ impl BooleanAlgebra for SampledStates {
 }
 
 /// Whether two hold in the same of the 64 states: their values are equal exactly where their bits are.
+// Kept: a call beside the derived equality, since it promises what equal bits say of the values.
 pub fn same_states(a: SampledStates, b: SampledStates) -> bool
     ensures bits { Decides result (a.bits ≡ b.bits) }
     ensures value { Decides result (samples a.bits ≡ samples b.bits) }

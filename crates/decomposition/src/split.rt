@@ -124,6 +124,7 @@ impl Writer for ByPart {
 
 /// Writes the kept ways by the part that comes first behind the definitions of the draft, and answers the operand and the number of
 /// definitions added. Refuses where the working records are short (13), or where a new definition is due and the limit is reached (10).
+// Kept: a call of its own, since a writer, whose `write` asks for room, is private to its crate.
 pub fn decomposition(
     ways: &[WayRecord],
     work: &mut [WorkingRecord],

@@ -10,11 +10,13 @@ fn simple(operator: Operator, first: Operand, second: Operand) -> Option<Operand
     ensures { result ≡ simply operator first second }
 {
     match (operator, first, second) {
-        (Operator::Meet, Operand::Never, _) => Some(Operand::Never),
-        (Operator::Meet, _, Operand::Never) => Some(Operand::Never),
+        (Operator::Meet, Operand::Never, _) | (Operator::Meet, _, Operand::Never) => Some(
+            Operand::Never,
+        ),
         (Operator::Meet, Operand::Always, x) | (Operator::Meet, x, Operand::Always) => Some(x),
-        (Operator::Join, Operand::Always, _) => Some(Operand::Always),
-        (Operator::Join, _, Operand::Always) => Some(Operand::Always),
+        (Operator::Join, Operand::Always, _) | (Operator::Join, _, Operand::Always) => Some(
+            Operand::Always,
+        ),
         (Operator::Join, Operand::Never, x) | (Operator::Join, x, Operand::Never) => Some(x),
         (_, first, second) if first == second => Some(first),
         _ => None,

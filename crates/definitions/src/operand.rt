@@ -9,11 +9,11 @@ use rack::part::{Literal, Part, Sign};
 pub const CAPACITY: usize = 4096;
 
 /// The number of a definition in its script, from 1.
-#[derive(Clone, Copy, PartialEq)]
+#[derive(Clone, Copy, PartialEq, Eq)]
 pub struct DefinitionNumber(pub u16);
 
 /// How a definition joins its two operands.
-#[derive(Clone, Copy, PartialEq)]
+#[derive(Clone, Copy, PartialEq, Eq)]
 pub enum Operator {
     Meet,
     Join,
@@ -29,7 +29,7 @@ impl From<Operator> for u8 {
 }
 
 /// What a definition is made of, and what a translation answers.
-#[derive(Clone, Copy, PartialEq)]
+#[derive(Clone, Copy, PartialEq, Eq)]
 pub enum Operand {
     Never,
     Always,
@@ -50,7 +50,7 @@ impl Operand {
     }
 
     /// The operand's kind, as a line writes it.
-    // Kept: a kind is a number only where lines are written and read.
+    // Kept: kind and number are methods, since a line writes both, and a `From` could give but one of them.
     pub fn kind(self) -> u8
         ensures { result ≡ kind self }
     {
@@ -88,7 +88,7 @@ impl From<Literal> for Operand {
 }
 
 /// The meet or join of two earlier things.
-#[derive(Clone, Copy, PartialEq)]
+#[derive(Clone, Copy, PartialEq, Eq)]
 pub struct Definition {
     pub operator: Operator,
     pub first: Operand,

@@ -1,7 +1,6 @@
 ghost use Rattle.std.specs.Prelude.{◌≡◌, ◌-◌};
 ghost use Rattle.std.specs.Result.{result_err};
 ghost use Rattle.definitions.specs.Operands.{reach};
-ghost use Rattle.script.specs.Script.{definitions_of};
 ghost use Rattle.delivery.specs.Calls.{buffer_refusal, close_refusal, Begun, Sent, Closed};
 
 use crate::delivery::Delivery;

@@ -1,4 +1,4 @@
-ghost use Rattle.std.specs.Prelude.{◌≡◌, ◌≤◌, length};
+ghost use Rattle.std.specs.Prelude.{◌≤◌, length};
 ghost use Rattle.script.specs.Script.{definitions_of};
 ghost use Rattle.evaluate.specs.Evaluation.{WorkedOut, Evaluation};
 

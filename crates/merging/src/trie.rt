@@ -26,7 +26,7 @@ fn branch_of(mark: &WorkingRecord, node: Node) -> Option<Literal>
 }
 
 /// A trie of ways: its branches and ends are the first `count` of the records that it is lent.
-// Kept: a node is the number of a record, since the libraries have no heap.
+// Kept: records with a count, and a node by the number of a record, since the libraries use no heap.
 #[derive(Drop)]
 struct Trie<'a> {
     records: &'a mut [WorkingRecord],
@@ -147,6 +147,7 @@ impl Writer for ByBeginning {
 
 /// Writes the kept ways by their common beginnings behind the definitions of the draft, and answers the operand and the number of
 /// definitions added. Refuses where the working records are short (13), or where a new definition is due and the limit is reached (10).
+// Kept: a call of its own, since a writer, whose `write` asks for room, is private to its crate.
 pub fn node_merging(
     ways: &[WayRecord],
     work: &mut [WorkingRecord],

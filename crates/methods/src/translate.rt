@@ -13,7 +13,7 @@ use table::table::Table;
 use working::record::WorkingRecord;
 
 /// How ways become definitions.
-#[derive(Clone, Copy, PartialEq)]
+#[derive(Clone, Copy, PartialEq, Eq)]
 pub enum Method {
     /// The join of the ways, each the meet of its literals.
     Naive,

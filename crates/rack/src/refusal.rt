@@ -61,7 +61,7 @@ pub enum Refusal {
 
 impl Refusal {
     /// The refusal's number, 1 to 15.
-    // Kept: a refusal is a number only in the line that tells it, and the number is no more than its case.
+    // Kept: a method, beside `position` and `layer`, since a `From` for one of the three is no plainer.
     pub fn number(&self) -> u8
         ensures { result ≡ number_of self.now }
     {

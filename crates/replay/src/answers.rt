@@ -95,6 +95,7 @@ impl Answers {
             .collect(self.heap)?;
         let mut records = lent(self.heap, WayRecord::BLANK, asked.way_records)?;
         let mut work = lent(self.heap, WorkingRecord::BLANK, asked.working_records)?;
+        // Kept: as in `preprocess`, where a closure that takes `Unread` was tried.
         let table = match read(&mut records, &text) {
             Ok(table) => table,
             Err(unread) => return self.tell(unread.refusal),
@@ -149,7 +150,7 @@ impl Answers {
     }
 
     /// Begins a delivery behind the open ones, and answers its start line.
-    // Kept: `begin`, `next` and `close` each lend a buffer, since one helper over a closure would have to hand deliveries out beside the line.
+    // Kept: `begin`, `next` and `close` each lend a buffer, since each hands on something else beside the line.
     pub fn begin<'s>(
         &mut self,
         script: &'s Script,

@@ -90,6 +90,7 @@ fn place(words: &mut Words<'_>) -> Option<usize> {
 
 impl<'a> Call<'a> {
     /// The call of a line; none where the line is no call.
+    // Kept: a `TryFrom` is no plainer, here and for the parts of a call, since nothing is said of a line that is no call.
     pub fn of(line: &'a [u8]) -> Option<Call<'a>> {
         let mut words = Words::new(line);
         Some(match words.next_word() {

@@ -40,6 +40,7 @@ impl<'a> Session<'a> {
     }
 
     /// Answers a call, and those that follow while the delivery that it begins is open.
+    // Kept: a line says which call is made, so that a case of an enum picks it, here, in `run` and in `deliver`.
     fn answer(&mut self, script: &mut Script, call: Call<'_>) -> io::Result<()>
         ensures { length self.new.lines ≤ length self.old.lines }
     {

@@ -1,5 +1,5 @@
 -- A script is sound when it is opened, and every accepted call keeps it so.
-use Rattle.std.proofs.Common.{◌≡◌, ℕ, Bool, true, false, ltb, leb, List, [], length, take, Some, None, Ok, Option, sym, subst, arith}
+use Rattle.std.proofs.Common.{◌≡◌, ℕ, Bool, true, false, ltb, leb, List, [], length, Some, None, Ok, Option, sym, arith}
 use mathlib.Core.Logic.{∥∥₁_map}
 use Rattle.std.proofs.lemmas.Bool.{and_parts, ltb-true, leb-true}
 use Rattle.rack.specs.declared.refusal.Refusal.{Refusal}
@@ -12,7 +12,7 @@ use Rattle.definitions.specs.declared.operand.Definition.{Definition}
 use Rattle.definitions.specs.Combine.{State, choose, combining}
 use Rattle.definitions.specs.Sound.{Legal, Sound}
 use Rattle.definitions.specs.declared.draft.Draft.{Draft}
-use Rattle.definitions.specs.Writing.{written_in, Grown, Wrote}
+use Rattle.definitions.specs.Writing.{written_in, Wrote}
 use Rattle.working.specs.declared.record.WorkingRecord.{WorkingRecord}
 use Rattle.working.specs.Gather.{needed}
 use Rattle.working.specs.Translation.{Outcome.written, Outcome.refused, limited}

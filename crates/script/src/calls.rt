@@ -81,6 +81,7 @@ impl Script {
         if !self.knows(first) || !self.knows(second) {
             return Err(Refusal::NoSuchDefinition);
         }
+        // Kept: the draft is lent here and in translate, since a method that lent it would hold open what is true of a script.
         let mut draft = Draft {
             slots: &mut self.slots,
             count: self.count,

@@ -7,10 +7,11 @@ use rack::way::WayRecord;
 pub const MOST_WAYS: u16 = 256;
 
 /// The number that a start line gives its table.
-#[derive(Clone, Copy, PartialEq)]
+#[derive(Clone, Copy, PartialEq, Eq)]
 pub struct TableNumber(pub u16);
 
 /// A table that still takes ways, in records that the caller lends.
+// Kept: records and how many of them hold a way, here and in `Unread`, since the libraries use no heap.
 #[derive(Drop)]
 pub struct OpenTable<'a> {
     pub(crate) number: TableNumber,

@@ -110,6 +110,7 @@ impl<'a> Line<'a> {
         requires { length body.now ≤ 48 }
         ensures { way_read result ≡ literals_from self.entry.number.0 0 body.now }
     {
+        // Kept: places are counted, as in `decode`, and go into a record of fixed size.
         let mut places = [Literal::BLANK; 24];
         let (pairs, _) = body.as_chunks::<2>();
         for (k, [sign, part]) in pairs.iter().enumerate() {

@@ -13,7 +13,7 @@ pub struct Case<'a> {
 
 impl<'a> Case<'a> {
     /// The case of a line; none where the line is no case. A text of `-` is the empty text.
-    // Kept: a `TryFrom` would want an error type, and nothing is said of a line that is no case.
+    // Kept: a `TryFrom` is no plainer, since it wants an error type, and nothing is said of a line that is no case.
     pub fn of(line: &'a [u8]) -> Option<Case<'a>> {
         let mut words = Words::new(line);
         Some(Case {

@@ -14,6 +14,7 @@ use text::lines::Lines;
 use working::record::WorkingRecord;
 
 /// More way records than a table can use, and more working records than a translation can need.
+// Kept: the bound stands in `replay` too, since the two programs share no crate of their own.
 const ENOUGH: usize = 8192;
 
 /// Adds the answer of a case, with the memory that it is lent.

@@ -94,7 +94,7 @@ pub fn hexadecimal(word: &[u8]) -> Option<u64>
 }
 
 /// The operand of a kind and a number; none where they name none.
-// Kept: a kind is a number only here, where its digits are read; `Operand` is another crate's type and can have no `TryFrom` here.
+// Kept: a kind is a number where a line is read; a `TryFrom` of a pair, with an error of its own, is no plainer than an `Option`.
 fn operand_of_kind(kind: u64, number: u16) -> Option<Operand>
     ensures { result ≡ operand_of_kind kind number }
 {

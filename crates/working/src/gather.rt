@@ -34,7 +34,7 @@ fn whole(way: &[Literal]) -> WorkingRecord
     requires { length way.now ≤ 24 }
     ensures { way_in result ≡ way.now }
 {
-    // Kept: places are counted, here and in gather, since the check knows nothing of what is written through a zip of `iter_mut`.
+    // Kept: places are counted, since the check knows nothing of what is written through a zip of `iter_mut`.
     let mut left = [None; 24];
     for (i, literal) in way.iter().enumerate() {
         left[i] = Some(*literal);
@@ -50,6 +50,7 @@ pub fn gather(ways: &[WayRecord], work: &mut [WorkingRecord]) -> Option<usize>
     if !serves(ways, work.len()) {
         return None;
     }
+    // Kept: the ways are walked again, and their places counted, since nothing may be written before all are known to find one.
     let mut n = 0;
     for (i, record) in ways.iter().enumerate() {
         let way = record.literals();

@@ -7,7 +7,7 @@ use rack::find::Exact;
 use rack::part::Literal;
 
 /// A node of the trie. The root is 0, and the branch in the record at place i leads to node i + 1.
-#[derive(Clone, Copy, PartialEq)]
+#[derive(Clone, Copy, PartialEq, Eq)]
 pub struct Node(pub usize);
 
 impl Node {
@@ -18,7 +18,7 @@ impl Node {
 /// A record that a caller lends to a translation. It holds a way with the literals that are left of it, a branch of the trie, or
 /// the mark of a node where a way ends.
 // Kept: records of one size, and nodes by their number, since the libraries use no heap.
-#[derive(Clone, Copy, PartialEq)]
+#[derive(Clone, Copy, PartialEq, Eq)]
 pub enum WorkingRecord {
     Way { left: [Option<Literal>; 24] },
     Branch { parent: Node, literal: Literal },
