@@ -36,7 +36,7 @@ impl Exact for Node {
 
 impl Exact for WorkingRecord {
     ghost use Rattle.std.proofs.Common.{refl};
-    ghost use Rattle.working.specs.Exact.{ByParts, exact_by_parts};
+    ghost use Rattle.working.specs.Exact.{exact_by_parts};
 
     ghost exact = { exact_by_parts {q = ⟦<WorkingRecord as PartialEq>⟧.eq} {n = ⟦<Node as PartialEq>⟧.eq} {l = ⟦<Literal as PartialEq>⟧.eq}
         (record {
