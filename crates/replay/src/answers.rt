@@ -1,5 +1,3 @@
-ghost use Rattle.std.specs.Prelude.{◌<◌, vec_len};
-
 use crate::call::{Evaluation, Named, Translation};
 use crate::numbered::{Numbered, set_parts};
 use algebra::dual::Dual;
@@ -177,15 +175,16 @@ impl Answers {
         }
     }
 
-    /// Closes an open delivery. Where that is refused it keeps its place.
+    /// Closes the delivery at a place among the open ones. Where that is refused it keeps its place.
     pub fn close(
         &mut self,
         deliveries: &mut Vec<OpenDelivery<'_>>,
         place: usize,
         buffer: usize,
-    ) -> io::Result<()>
-        requires { place < vec_len deliveries.old }
-    {
+    ) -> io::Result<()> {
+        if place >= deliveries.len() {
+            return self.unknown();
+        }
         let mut line = [0u8; LONGEST];
         match deliveries
             .remove(place)

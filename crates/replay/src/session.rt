@@ -77,7 +77,7 @@ impl<'a> Session<'a> {
                 Some(Call::Next { place, buffer }) if place < deliveries.len() => {
                     self.answers.next(&mut deliveries[place], buffer)?;
                 }
-                Some(Call::Close { place, buffer }) if place < deliveries.len() => {
+                Some(Call::Close { place, buffer }) => {
                     self.answers.close(&mut deliveries, place, buffer)?;
                 }
                 Some(Call::Strike { place }) if place < deliveries.len() => {
