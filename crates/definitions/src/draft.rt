@@ -14,6 +14,22 @@ pub struct Draft<'a> {
     ghost room: { length slots.now ≡ 4096 },
 }
 
+impl<'a> Draft<'a> {
+    /// A draft of the first `count` definitions in the slots.
+    pub fn new(slots: &'a mut [Definition; 4096], count: usize, limit: usize) -> Draft<'a>
+        ensures slots { result.slots.now ≡ slots.old }
+        ensures lender { result.slots.ghost_name ≡ slots.entry.ghost_name }
+        ensures count { result.count ≡ count }
+        ensures limit { result.limit ≡ limit }
+    {
+        Draft {
+            slots,
+            count,
+            limit,
+        }
+    }
+}
+
 /// A new definition is due and the limit is reached.
 #[derive(Clone, Copy, PartialEq, Eq)]
 pub struct LimitReached;

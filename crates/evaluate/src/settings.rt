@@ -27,7 +27,11 @@ fn look_up<A: BooleanAlgebra>(number: DefinitionNumber, done: &[A]) -> A
     ensures { A.value result ≡ slice_index_or (map A.value done.now) (number.0 - 1) A.algebra.bottom }
 {
     let place = usize::from(number.0).saturating_sub(1);
-    done.get(place).copied().unwrap_or(A::bottom())
+    // Kept: a match, since `unwrap_or` makes a bottom each time, and the check does not cover `unwrap_or_else(A::bottom)`.
+    match done.get(place) {
+        Some(element) => *element,
+        None => A::bottom(),
+    }
 }
 
 impl<A: BooleanAlgebra> Settings<'_, A> {

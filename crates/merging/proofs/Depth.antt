@@ -1,9 +1,11 @@
 -- The longest way is depth enough: more changes nothing, so the rule holds with no depth in sight.
-use Rattle.std.proofs.Common.{◌≡◌, ℕ, zero, suc, ◌≤◌, max, true, false, List, [], ◌∷◌, length, sym, refl, ap, ◌∙◌, arith}
+use Rattle.std.proofs.Common.{◌≡◌, ℕ, zero, suc, ◌≤◌, min, max, Bool, true, false, cond, List, [], ◌∷◌, ◌++◌, length, sym, refl, ap, ◌∙◌, arith}
 use Rattle.std.proofs.lemmas.Bool.{false≢true}
+use Rattle.std.proofs.lemmas.List.{length-take}
 use Rattle.rack.specs.declared.part.Literal.{Literal}
+use Rattle.rack.specs.declared.way.WayRecord.{WayRecord}
 use Rattle.rack.specs.Way.{Way}
-use Rattle.table.specs.Kept.{same_literal}
+use Rattle.table.specs.Kept.{same_literal, keeps, kept_after, kept, ways_of}
 use Rattle.definitions.specs.declared.operand.Operator.TheVariants.{Meet, Join}
 use Rattle.definitions.specs.declared.operand.Operand.{Operand}
 use Rattle.definitions.specs.declared.operand.Operand.TheVariants.{Never, Always}
@@ -66,3 +68,21 @@ all_within h (w ∷ ws) le = (omega (arith, le), all_within h ws (omega (arith, 
 -- no way has more literals than the ways have together
 pub deep_enough : (limit h : ℕ) (ws : List Way) → size ws ≤ h → merging limit ws ≡ merge_in limit h ws
 deep_enough limit h ws le = enough limit (longest ws) h ws (covers 0 ws) (all_within h ws le)
+
+ways_within : (rs : List WayRecord) → Within 24 (ways_of rs)
+ways_within [] = tt
+ways_within (r ∷ rs) = (omega (arith, length-take (min r.count 24) r.places), ways_within rs)
+
+kept_within : (h : ℕ) (earlier ws : List Way) → Within h ws → Within h (kept_after earlier ws)
+kept_within h earlier [] i = tt
+kept_within h earlier (w ∷ ws) i = go (kept_within h (earlier ++ w ∷ []) ws i.1) (keeps w earlier)
+  where
+    go : Within h (kept_after (earlier ++ w ∷ []) ws) → (t : Bool) → Within h (cond t (w ∷ kept_after (earlier ++ w ∷ []) ws) (kept_after (earlier ++ w ∷ []) ws))
+    go a true = (i.0, a)
+    go a false = a
+
+-- the kept ways of a table are at most 24 literals long
+pub table_deep_enough : (limit : ℕ) (rs : List WayRecord) → merging limit (kept (ways_of rs)) ≡ merge_in limit 24 (kept (ways_of rs))
+table_deep_enough limit rs =
+    let ws = kept (ways_of rs) in
+    enough limit (longest ws) 24 ws (covers 0 ws) (kept_within 24 [] (ways_of rs) (ways_within rs))

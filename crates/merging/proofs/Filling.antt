@@ -9,6 +9,9 @@ use Rattle.merging.proofs.Marks.{reaching_found, reaching_new, look}
 use Rattle.merging.proofs.Labels.{Label, Label.lit, Label.end, Word, Link, link, view, view_same, whole, wholes, views, none, Fits, Filled}
 use Rattle.merging.proofs.Steps.{way_starts, way_follows, way_grows, newest, paths_with}
 
+pub views_index : (R : List WorkingRecord) (i : ℕ) (e : WorkingRecord) → i < length R → get_or (views R) i none ≡ view (get_or R i e)
+views_index R i e l = get_or-map view R i e none l
+
 -- the link that leads from R to node k, found or added
 abbrev Placed : List Link → Link → List Link → ℕ → Type 0
 Placed R b S k = ((S ≡ R) × ((i : ℕ) × (k ≡ i + 1) × (i < length R) × (get_or R i none ≡ b))) ⊎ ((S ≡ R ++ b ∷ []) × (k ≡ length R + 1) × ((i : ℕ) → i < length R → get_or R i none ≡ b → ⊥))
@@ -22,14 +25,14 @@ placed R r m = go (look r m R)
         let e = reaching_found r m R i f.1 in
         let long = length-map R view in
         let inside : i < length R = f.1.inside in
-        inl (ap (λ x. views x.records) e, (i, ap (λ x. x.node) e, omega arith, get_or-map view R i r none inside ∙ ap view f.1.here))
+        inl (ap (λ x. views x.records) e, (i, ap (λ x. x.node) e, omega arith, views_index R i r inside ∙ ap view f.1.here))
     go (inr new) =
         let e = reaching_new r m R new in
         let long = length-map R view in
         inr (
           ap (λ x. views x.records) e ∙ map-append view R (r ∷ []),
           ap (λ x. x.node) e ∙ ap (λ n. n + 1) (sym long),
-          λ i il same. let inside : i < length R = omega arith in new i inside (view_same (get_or R i r) r m (sym (get_or-map view R i r none inside) ∙ same)),
+          λ i il same. let inside : i < length R = omega arith in new i inside (view_same (get_or R i r) r m (sym (views_index R i r inside) ∙ same)),
         )
 
 -- R holds ws and the beginning v of one way more, which leads to node m

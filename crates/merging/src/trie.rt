@@ -92,7 +92,7 @@ impl Trie<'_> {
     fn is_ended(&self, node: Node) -> bool
         ensures { result ≡ ended (marks self.now) node.0 }
     {
-        self.marks().contains(&WorkingRecord::End { node })
+        find_first(self.marks(), &WorkingRecord::End { node }).is_some()
     }
 
     /// What is below the node, so many literals deep: each of its branches in turn, and of each what is below it first.

@@ -1,2 +1,3 @@
 mod Apart
+pub mod Found
 pub mod Table

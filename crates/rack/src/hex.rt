@@ -2,6 +2,7 @@ ghost use Rattle.std.specs.Prelude.{◌≡◌};
 ghost use Rattle.rack.specs.Hex.{digit_of, hex_digit, hex_byte, hex_word};
 
 /// What a byte is worth as a digit, 0 to 9 and capital A to F only.
+#[inline(always)]
 pub fn digit(b: u8) -> Option<u8>
     ensures { result ≡ digit_of b }
 {

@@ -6,6 +6,7 @@ use algebra::sampled::SampledStates;
 use definitions::operand::{Definition, Operand};
 use delivery::delivery::Delivery;
 use delivery::line::operand_digits;
+use itoa::Buffer;
 use lives::evaluate;
 use preprocess::answer::refusal_line;
 use rack::refusal::Refusal;
@@ -14,6 +15,7 @@ use script::script::Script;
 use std::alloc::{AllocError, Global};
 use std::io;
 use std::io::Write;
+use std::mem::replace;
 use table::read::read;
 use working::record::WorkingRecord;
 
@@ -43,6 +45,69 @@ impl<'s> OpenDelivery<'s> {
     fn into_inner(self) -> Delivery<'s> {
         let OpenDelivery(delivery) = self;
         delivery
+    }
+}
+
+/// The open deliveries, the oldest first: two at most, without a heap.
+#[derive(Drop)]
+pub struct OpenDeliveries<'s> {
+    older: Option<OpenDelivery<'s>>,
+    newer: Option<OpenDelivery<'s>>,
+}
+
+impl<'s> OpenDeliveries<'s> {
+    /// None is open.
+    pub fn new() -> OpenDeliveries<'s> {
+        OpenDeliveries {
+            older: None,
+            newer: None,
+        }
+    }
+
+    /// Whether none is open.
+    pub fn is_empty(&self) -> bool {
+        self.older.is_none()
+    }
+
+    /// Whether no more may be open.
+    pub fn is_full(&self) -> bool {
+        self.newer.is_some()
+    }
+
+    /// Puts a delivery behind the open ones.
+    fn push(&mut self, delivery: OpenDelivery<'s>) {
+        if self.is_empty() {
+            self.older = Some(delivery);
+        } else {
+            self.newer = Some(delivery);
+        }
+    }
+
+    /// The delivery at a place.
+    pub fn get_mut(&mut self, place: usize) -> Option<&mut OpenDelivery<'s>> {
+        match place {
+            0 => self.older.as_mut(),
+            1 => self.newer.as_mut(),
+            _ => None,
+        }
+    }
+
+    /// Takes the delivery at a place away; those behind it move up.
+    pub fn take(&mut self, place: usize) -> Option<OpenDelivery<'s>> {
+        match place {
+            0 => replace(&mut self.older, self.newer.take()),
+            1 => self.newer.take(),
+            _ => None,
+        }
+    }
+
+    /// Puts a delivery back at the place that it was taken from.
+    fn put_back(&mut self, place: usize, delivery: OpenDelivery<'s>) {
+        if place == 0 {
+            self.newer = self.older.replace(delivery);
+        } else {
+            self.newer = Some(delivery);
+        }
     }
 }
 
@@ -112,7 +177,7 @@ impl Answers {
         match script.combine(asked.operator, asked.first, asked.second) {
             Ok(operand) => {
                 self.bytes.write_all(&operand_digits(operand))?;
-                writeln!(self.bytes)
+                self.bytes.write_all(b"\n")
             }
             Err(refusal) => self.tell(refusal),
         }
@@ -154,12 +219,12 @@ impl Answers {
         script: &'s Script,
         operand: Operand,
         buffer: usize,
-        deliveries: &mut Vec<OpenDelivery<'s>>,
+        deliveries: &mut OpenDeliveries<'s>,
     ) -> io::Result<()> {
         let mut line = [0u8; LONGEST];
         match Delivery::begin(script, operand, &mut line[..buffer.min(LONGEST)]) {
             Ok((delivery, n)) => {
-                deliveries.push(OpenDelivery(delivery))?;
+                deliveries.push(OpenDelivery(delivery));
                 self.bytes.write_all(&line[..n])
             }
             Err(refusal) => self.tell(refusal),
@@ -178,22 +243,21 @@ impl Answers {
     /// Closes the delivery at a place among the open ones. Where that is refused it keeps its place.
     pub fn close(
         &mut self,
-        deliveries: &mut Vec<OpenDelivery<'_>>,
+        deliveries: &mut OpenDeliveries<'_>,
         place: usize,
         buffer: usize,
     ) -> io::Result<()> {
-        if place >= deliveries.len() {
+        let Some(delivery) = deliveries.take(place) else {
             return self.unknown();
-        }
+        };
         let mut line = [0u8; LONGEST];
-        match deliveries
-            .remove(place)
+        match delivery
             .into_inner()
             .close(&mut line[..buffer.min(LONGEST)])
         {
             Ok(n) => self.bytes.write_all(&line[..n]),
             Err((refusal, delivery)) => {
-                deliveries.insert(place, OpenDelivery(delivery))?;
+                deliveries.put_back(place, OpenDelivery(delivery));
                 self.tell(refusal)
             }
         }
@@ -201,6 +265,10 @@ impl Answers {
 
     /// Strikes a delivery, and answers how many definitions were sent.
     pub fn strike(&mut self, delivery: OpenDelivery<'_>) -> io::Result<()> {
-        writeln!(self.bytes, "struck {}", delivery.into_inner().strike())
+        let mut buffer = Buffer::new();
+        let digits = buffer.format(delivery.into_inner().strike());
+        self.bytes.write_all(b"struck ")?;
+        self.bytes.write_all(digits.as_bytes())?;
+        self.bytes.write_all(b"\n")
     }
 }

@@ -1,14 +1,11 @@
 ghost use Rattle.std.specs.Prelude.{◌≤◌, length};
 
-use crate::answers::{Answers, OpenDelivery};
+use crate::answers::{Answers, OpenDeliveries};
 use crate::call::Call;
 use script::script::Script;
 use std::alloc::Global;
 use std::io;
 use text::lines::Lines;
-
-/// How many deliveries may be open.
-const MOST_OPEN: usize = 2;
 
 /// A run of the program: the calls that are still to come, and the answers so far.
 #[derive(Drop)]
@@ -49,7 +46,7 @@ impl<'a> Session<'a> {
             Call::Combine(asked) => self.answers.combine(script, asked),
             Call::Evaluate(asked) => self.answers.evaluate(script, asked),
             Call::Begin { operand, buffer } => {
-                let mut deliveries = Vec::new(self.answers.heap);
+                let mut deliveries = OpenDeliveries::new();
                 self.answers
                     .begin(script, operand, buffer, &mut deliveries)?;
                 self.deliver(script, deliveries)
@@ -62,7 +59,7 @@ impl<'a> Session<'a> {
     fn deliver<'s>(
         &mut self,
         script: &'s Script,
-        mut deliveries: Vec<OpenDelivery<'s>>,
+        mut deliveries: OpenDeliveries<'s>,
     ) -> io::Result<()>
         ensures { length self.new.lines ≤ length self.old.lines }
     {
@@ -70,19 +67,21 @@ impl<'a> Session<'a> {
             && let Some(line) = self.lines.next()
         {
             match Call::of(line) {
-                Some(Call::Begin { operand, buffer }) if deliveries.len() < MOST_OPEN => {
+                Some(Call::Begin { operand, buffer }) if !deliveries.is_full() => {
                     self.answers
                         .begin(script, operand, buffer, &mut deliveries)?;
                 }
-                Some(Call::Next { place, buffer }) if place < deliveries.len() => {
-                    self.answers.next(&mut deliveries[place], buffer)?;
-                }
+                Some(Call::Next { place, buffer }) => match deliveries.get_mut(place) {
+                    Some(delivery) => self.answers.next(delivery, buffer)?,
+                    None => self.answers.unknown()?,
+                },
                 Some(Call::Close { place, buffer }) => {
                     self.answers.close(&mut deliveries, place, buffer)?;
                 }
-                Some(Call::Strike { place }) if place < deliveries.len() => {
-                    self.answers.strike(deliveries.remove(place))?;
-                }
+                Some(Call::Strike { place }) => match deliveries.take(place) {
+                    Some(delivery) => self.answers.strike(delivery)?,
+                    None => self.answers.unknown()?,
+                },
                 Some(Call::Evaluate(asked)) => self.answers.evaluate(script, asked)?,
                 Some(Call::Open { .. } | Call::Translate(_) | Call::Combine(_)) => {
                     self.answers.busy()?;

@@ -1,5 +1,5 @@
 -- A script is sound when it is opened, and every accepted call keeps it so.
-use Rattle.std.proofs.Common.{◌≡◌, ℕ, Bool, true, false, ltb, leb, List, [], length, Some, None, Ok, Option, sym, arith}
+use Rattle.std.proofs.Common.{◌≡◌, ℕ, Bool, true, false, ltb, leb, List, [], length, take, Some, None, Ok, Err, Option, Result, sym, refl, subst, arith}
 use mathlib.Core.Logic.{∥∥₁_map}
 use Rattle.std.proofs.lemmas.Bool.{and_parts, ltb-true, leb-true}
 use Rattle.rack.specs.declared.refusal.Refusal.{Refusal}
@@ -44,6 +44,10 @@ combined_sound {was} {after} o a b x sound ka kb w =
     let ds = written_in was in
     ∥∥₁_map sound (λ h. (combine_sound was.limit o a b ds (record { answer = x; all = written_in after }) h (known_legal (length ds) a ka) (known_legal (length ds) b kb) (sym w.answer)).1)
 
+-- the definitions in front are as they were
+pub same_sound : (s t : List Definition) (n : ℕ) → ∥ Sound (take n s) ∥₁ → take n t ≡ take n s → ∥ Sound (take n t) ∥₁
+same_sound s t n h e = subst (λ ds. ∥ Sound ds ∥₁) (sym e) h
+
 -- an outcome that is written comes from what the method wrote
 pub wrote_by : (o : Option State) (ds : List Definition) (t : Bool) (e : Refusal) (x : Operand) (k : ℕ) (all : List Definition) → written x k all ≡ choose t (limited ds o) (refused e) → o ≡ Some (record { answer = x; all = all })
 wrote_by (Some st) ds true e x k all h = λ i. Some (back i)
@@ -53,10 +57,13 @@ wrote_by (Some st) ds true e x k all h = λ i. Some (back i)
 wrote_by None ds true e x k all h = absurd (let z : ◌≡◌ {A = ℕ} 0 1 = cc in omega arith)
 wrote_by o ds false e x k all h = absurd (let z : ◌≡◌ {A = ℕ} 0 1 = cc in omega arith)
 
-pub settled_sound : {was after : Draft} (method : Method) (ws : List Way) (lent left : List WorkingRecord) (p : Operand × ℕ) → ∥ Sound (written_in was) ∥₁ → Settled method ws lent left was after (Ok p) → ∥ Sound (written_in after) ∥₁
-settled_sound {was} {after} method ws lent left p h w =
+pub settled_sound : {was after : Draft} (method : Method) (ws : List Way) (lent left : List WorkingRecord) (r : Result (Operand × ℕ) Refusal) → ∥ Sound (written_in was) ∥₁ → Settled method ws lent left was after r → ∥ Sound (written_in after) ∥₁
+settled_sound {was} {after} method ws lent left (Ok p) h w =
     let ds = written_in was in
     ∥∥₁_map h
     (λ sound.
     (method_sound method was.limit (kept ws) ds (record { answer = p.0; all = written_in after }) sound
     (wrote_by (rule_of method was.limit (kept ws) ds) ds (leb (needed (kept ws)) (length lent)) _ p.0 p.1 (written_in after) w.translated.answer)).1)
+settled_sound {was} {after} method ws lent left (Err e) h w =
+    let back : after.count ≡ was.count = w.restored refl in
+    subst (λ k. ∥ Sound (take k after.slots.now) ∥₁) (sym back) (same_sound was.slots.now after.slots.now was.count h w.translated.grown.below)

@@ -1,17 +1,18 @@
 -- Literals and ways are the same exactly where they are equal, and one turn of each loop over them.
-use Rattle.std.proofs.Common.{◌≡◌, ℕ, zero, suc, ◌+◌, ◌<◌, ◌≤◌, Bool, true, false, cond, ◌||◌, List, [], ◌∷◌, ◌++◌, length, get_or, take, drop, Decides, sym, refl, ap, ◌∙◌, arith}
+use Rattle.std.proofs.Common.{◌≡◌, ℕ, zero, suc, ◌+◌, ◌<◌, ◌≤◌, Bool, false, cond, ◌&&◌, ◌||◌, List, [], ◌∷◌, ◌++◌, length, get_or, take, drop, zip, is_some, Decides, Option, sym, refl, ap, ◌∙◌, arith, MatchOption}
 use Rattle.std.proofs.lemmas.List.{at_drop_more, at_drop_all, map_more}
-use Rattle.std.proofs.lemmas.Slice.Eq.{slice_eq-Decides}
-use Rattle.std.specs.Cmp.Lexicographic.{pointwise}
-use Rattle.std.specs.List.{list_any}
-use Rattle.std.proofs.lemmas.Bool.Decides.{Decides-and, Decides-eqb, Decides-like, same_from_decides}
+use Rattle.std.proofs.lemmas.Bool.{and_right}
+use Rattle.std.proofs.lemmas.Bool.Decides.{Decides-and, Decides-eqb, Decides-like}
+use Rattle.std.specs.List.{list_any, list_all}
+use Rattle.rack.proofs.Found.{found_any}
+use Rattle.rack.specs.First.{FirstAt, Nowhere}
 use Rattle.rack.specs.declared.part.Literal.{Literal}
 use Rattle.rack.specs.declared.part.Sign.{Sign}
 use Rattle.rack.specs.declared.part.Sign.TheVariants.{Works, Out}
 use Rattle.rack.specs.declared.way.WayRecord.{WayRecord}
-use Rattle.rack.specs.Sign.{sign_code, turned}
+use Rattle.rack.specs.Sign.{sign_code}
 use Rattle.rack.specs.Way.{Way, way_of}
-use Rattle.table.specs.Kept.{same_literal, holds, opposed, contradictory, same_way, among, keeps, kept_after, ways_of}
+use Rattle.table.specs.Kept.{same_literal, holds, same_way, among, keeps, kept_after, ways_of}
 
 abbrev sign_of : ℕ → Sign
 sign_of zero = Works
@@ -37,55 +38,30 @@ decides_way (l ∷ w) (h ∷ v) =
     Decides-like _ (λ e i. e.0 i ∷ e.1 i) (λ e. (cc, cc))
     (Decides-and _ _ (decides_literal l h) (decides_way w v))
 
--- what `==` says of a literal in a way, and of two ways, where it decides literals
-pub held_by : (t : Literal → Bool) (h : Literal) → ((l : Literal) → Decides (t l) (l ≡ h)) → (w : Way) → list_any t w ≡ holds h w
-held_by t h d [] = refl
-held_by t h d (l ∷ w) = λ i. same_from_decides (t l) (same_literal l h) (d l) (decides_literal l h) i || held_by t h d w i
+-- what the finder answers of a way
+any_held : (w : Way) (h : Literal) → list_any (λ l. same_literal l h) w ≡ holds h w
+any_held [] h = refl
+any_held (l ∷ w) h = ap (λ t. same_literal l h || t) (any_held w h)
 
-pub alike : {E : Literal → Literal → Bool} → ((l h : Literal) → Decides (E l h) (l ≡ h)) → (w v : Way) (r : Bool) → r ≡ pointwise E w v → r ≡ same_way w v
-alike d w v r e = same_from_decides r (same_way w v) (slice_eq-Decides d w v r e) (decides_way w v)
+pub found_held : (w : Way) (h : Literal) (o : Option ℕ) → MatchOption o (Nowhere w h) (FirstAt w h) → is_some o ≡ holds h w
+found_held w h o f = found_any h (λ l. same_literal l h) (λ l. decides_literal l h) w o f ∙ any_held w h
+
+-- two ways of one length are compared place by place, and others differ
+pub same_places : (w v : Way) → length w ≡ length v → list_all (λ (p : Literal × Literal). same_literal p.0 p.1) (zip w v) ≡ same_way w v
+same_places [] [] e = refl
+same_places [] (h ∷ v) e = absurd (omega (arith, e))
+same_places (l ∷ w) [] e = absurd (omega (arith, e))
+same_places (l ∷ w) (h ∷ v) e = ap (λ t. same_literal l h && t) (same_places w v (omega (arith, e)))
+
+pub longer : (w v : Way) → (length w ≡ length v → ⊥) → same_way w v ≡ false
+longer [] [] ne = absurd (ne refl)
+longer [] (h ∷ v) ne = refl
+longer (l ∷ w) [] ne = refl
+longer (l ∷ w) (h ∷ v) ne = and_right (same_literal l h) (same_way w v) (longer w v (λ e. ne (omega arith)))
 
 pub among_any : (w : Way) (rs : List WayRecord) → list_any (λ r. same_way (way_of r) w) rs ≡ among w (ways_of rs)
 among_any w [] = refl
 among_any w (r ∷ rs) = ap (λ t. same_way (way_of r) w || t) (among_any w rs)
-
--- a literal and its opposite differ, and are each other's opposite
-not_opposed : (l : Literal) → same_literal l (opposed l) ≡ false
-not_opposed l = other l (opposed l) (λ e. differ l.sign (ap (λ x. x.sign) e))
-  where
-    differ : (s : Sign) → s ≡ turned s → ⊥
-    differ Works e = cc
-    differ Out e = cc
-
-turned_twice : (s : Sign) → turned (turned s) ≡ s
-turned_twice Works = refl
-turned_twice Out = refl
-
-opposed_back : (l h : Literal) → l ≡ opposed h → h ≡ opposed l
-opposed_back l h e = sym (ap opposed e ∙ (λ i. record { part = h.part; sign = turned_twice h.sign i }))
-
-opposed_turns : (l h : Literal) → same_literal l (opposed h) ≡ same_literal h (opposed l)
-opposed_turns l h =
-    same_from_decides _ _ (Decides-like _ (opposed_back l h) (opposed_back h l) (decides_literal l (opposed h))) (decides_literal h (opposed l))
-
-or_twice : (a b : Bool) → (a || (a || b)) ≡ (a || b)
-or_twice true b = refl
-or_twice false b = refl
-
-or_swap : (a b c d : Bool) → ((a || b) || (c || d)) ≡ ((a || c) || (b || d))
-or_swap a b c d = grind arith
-
--- the opposite of a literal may be looked for in the whole way, since the order of the two plays no part
-opposed_in : (l : Literal) (w v : Way) → list_any (λ m. holds (opposed m) (l ∷ v)) w ≡ (holds (opposed l) w || list_any (λ m. holds (opposed m) v) w)
-opposed_in l [] v = refl
-opposed_in l (m ∷ w) v = (λ i. (opposed_turns l m i || holds (opposed m) v) || opposed_in l w v i) ∙ or_swap (same_literal m (opposed l)) (holds (opposed m) v) (holds (opposed l) w) (list_any (λ h. holds (opposed h) v) w)
-
-pub contradictory_any : (w : Way) → list_any (λ l. holds (opposed l) w) w ≡ contradictory w
-contradictory_any [] = refl
-contradictory_any (l ∷ w) =
-    (λ i. (not_opposed l i || holds (opposed l) w) || opposed_in l w w i)
-    ∙ or_twice (holds (opposed l) w) (list_any (λ h. holds (opposed h) w) w)
-    ∙ ap (λ t. holds (opposed l) w || t) (contradictory_any w)
 
 -- the kept ways from record i on
 module _ (rs : List WayRecord) (i : ℕ) (d : WayRecord) (lt : i < length rs) where

@@ -1,5 +1,5 @@
 -- A line's digits and a way's bytes by their pairs: what each pair gives, and what all of them come to.
-use Rattle.std.proofs.Common.{◌≡◌, ℕ, suc, ◌+◌, ◌/◌, ◌<◌, ◌≤◌, List, [], ◌∷◌, ◌++◌, length, get_or, take, drop, set, map, Some, None, Ok, Err, Option, Result, min, sym, refl, ap, ◌∙◌, subst, append_assoc, append-nil, arith, Bor}
+use Rattle.std.proofs.Common.{◌≡◌, ℕ, suc, ◌+◌, ◌/◌, ◌<◌, ◌≤◌, false, if◌then◌else◌, List, [], ◌∷◌, ◌++◌, length, get_or, take, drop, set, map, Some, None, Ok, Err, Option, Result, min, sym, refl, ap, ◌∙◌, subst, append_assoc, append-nil, arith, Bor}
 use Rattle.std.proofs.lemmas.List.{take_more, take_more_set, take_all, get_or-take, get_or-map, length-map, drop-set-lt, drop-drop, at_drop_more, at_drop_all}
 use Rattle.std.specs.Option.{ok_or}
 use Rattle.std.specs.Simd.{first_chunks}
@@ -7,15 +7,19 @@ use Rattle.rack.specs.declared.part.Literal.{Literal}
 use Rattle.rack.specs.declared.part.NoSign.{NoSign}
 use Rattle.rack.specs.declared.part.Sign.{Sign}
 use Rattle.rack.specs.declared.refusal.Refusal.{Refusal}
-use Rattle.rack.specs.declared.refusal.Refusal.TheVariants.{UnknownSign}
+use Rattle.rack.specs.declared.refusal.Refusal.TheVariants.{LineLength, UnknownSign}
 use Rattle.rack.specs.Sign.{sign_of}
 use Rattle.rack.specs.Way.{Way}
 use Rattle.rack.specs.declared.refusal.Position.{Position}
 use Rattle.text.specs.declared.frame.Frame.{Frame}
 use Rattle.text.specs.declared.frame.Frame.TheVariants as frame
 use Rattle.text.specs.Digits.{byte_of, decoded}
-use Rattle.text.specs.Frames.{followed, frame_at, place, literal, before, literals_from, literals_at, rising, way_of_frame, way_at}
+use Rattle.text.specs.Frames.{at, bad_length, no_digit, by_digits, checked, followed, frame_at, place, literal, before, literals_from, literals_at, rising, way_of_frame, way_at}
 use Rattle.text.specs.Seen.{digits_of, seen_frame}
+
+-- a line of a right length
+pub refused_by_digits : (line : ℕ) (bs : List ℕ) → bad_length (length bs) ≡ false → checked line bs ≡ by_digits line (no_digit bs)
+refused_by_digits line bs e = ap (λ t. (if t then Err (LineLength (at line 1)) else by_digits line (no_digit bs))) e
 
 abbrev pub pairs : List ℕ → List (List ℕ)
 pairs xs = first_chunks 2 (length xs / 2) xs

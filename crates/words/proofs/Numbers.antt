@@ -35,10 +35,6 @@ capped_alike digit base m n (b ∷ w) some e = go (λ d. capped_alike digit base
     go on None = refl
     go on (Some d) = on d
 
--- the next number, where a product and a sum stop at the largest
-pub saturated : (t s d r : ℕ) → s ≡ min t most → r ≡ min (s + d) most → min r most ≡ min (t + d) most
-saturated t s d r e f = omega (arith, e, f)
-
 -- digits that are read alike stand for the same number
 alike : (f g : ℕ → Option ℕ) (base n : ℕ) (w : List ℕ) → ((b : ℕ) → f b ≡ g b) → number_behind f base n w ≡ number_behind g base n w
 alike f g base n [] e = refl

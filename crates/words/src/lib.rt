@@ -1,7 +1,7 @@
 //! The words of a line, as the programs read them: methods, decimal and hexadecimal numbers, operands.
 #![tactic(auto)]
 
-ghost use Rattle.std.specs.Prelude.{◌≡◌, ℕ, ◌<◌, List};
+ghost use Rattle.std.specs.Prelude.{◌≡◌, ℕ, ◌+◌, ◌*◌, ◌<◌, min, List, IfSome};
 ghost use Rattle.text.specs.Lines.{up_to, behind};
 ghost use Rattle.definitions.specs.Operands.{operand_of_kind};
 ghost use Rattle.words.specs.Words.{space, digit_below, number_behind, capped, decimal_of, hexadecimal_of, operand_of_word, NamesMethod};
@@ -52,13 +52,34 @@ impl<'a> Words<'a> {
 }
 
 /// The digit that a byte is in a base up to 16; none where it is none.
+#[inline(always)]
 fn digit_below(base: u8, b: u8) -> Option<u8>
-    ensures { result ≡ digit_below base b }
+    ensures digit { result ≡ digit_below base b }
+    ensures small { IfSome result (λ d. d < base) }
 {
+    // A base up to ten has no letters.
+    if base <= 10 && b > b'9' {
+        return None;
+    }
     digit(b).filter(|d| *d < base)
 }
 
+/// A number with one more digit behind it, or the largest where that is too large.
+#[inline(always)]
+fn with_digit(n: u64, base: u8, d: u8) -> u64
+    requires { d < base }
+    ensures { result ≡ min (n * base + d) 18446744073709551615 }
+{
+    let (base, d) = (u64::from(base), u64::from(d));
+    if n < u64::MAX / base {
+        n * base + d
+    } else {
+        n.saturating_mul(base).saturating_add(d)
+    }
+}
+
 /// The number that digits of a base up to 16 stand for, or the largest where it is too large; none where a byte is no such digit.
+#[inline(always)]
 fn number(word: &[u8], base: u8) -> Option<u64>
     requires { 0 < base }
     ensures { result ≡ capped (number_behind (digit_below base) base 0 word.now) }
@@ -66,9 +87,7 @@ fn number(word: &[u8], base: u8) -> Option<u64>
     let mut n: u64 = 0;
     for b in word {
         let d = digit_below(base, *b)?;
-        n = n
-            .saturating_mul(u64::from(base))
-            .saturating_add(u64::from(d));
+        n = with_digit(n, base, d);
     }
     Some(n)
 }

@@ -1,19 +1,25 @@
 -- The places of a way, one at a time: its first literal, whether it holds one, and what is left lacking one.
-use Rattle.std.proofs.Common.{◌≡◌, ℕ, ◌+◌, ◌<◌, ◌≤◌, Bool, true, false, cond, not, ◌||◌, List, [], ◌∷◌, ◌++◌, map, length, get_or, take, drop, set, Some, None, Option, sym, refl, ap, ◌∙◌, arith}
+use Rattle.std.proofs.Common.{◌≡◌, ℕ, ◌+◌, ◌<◌, ◌≤◌, Bool, true, false, cond, not, ◌||◌, List, [], ◌∷◌, ◌++◌, map, length, get_or, take, drop, set, Some, None, Decides, Option, sym, refl, ap, ◌∙◌, arith}
 use Rattle.std.proofs.lemmas.List.{at_drop_more, append-nil, length-append, length-map, length-drop, length-take-le, take_all, drop_all, get_or_default}
 use Rattle.std.proofs.lemmas.List.Edits.{map_over_more}
 use Rattle.std.proofs.lemmas.Bool.{false≢true}
+use Rattle.std.proofs.lemmas.Bool.Decides.{same_from_decides, Decides-like}
 use Rattle.std.specs.List.{list_any}
 use Rattle.std.specs.Option.{option_eq}
 use Rattle.rack.specs.declared.part.Literal.{Literal}
 use Rattle.rack.specs.Way.{Way}
 use Rattle.table.specs.Kept.{same_literal, holds}
+use Rattle.table.proofs.KeptWays.{decides_literal}
 use Rattle.working.specs.Records.{left_in, lacking, first_of}
 
 -- whether a place holds m
 abbrev pub is_at : Literal → Option Literal → Bool
 is_at m None = false
 is_at m (Some l) = same_literal l m
+
+pub is_at_decided : (m : Literal) (o : Option Literal) (r : Bool) → Decides r (o ≡ Some m) → r ≡ is_at m o
+is_at_decided m None r d = same_from_decides r false d ((λ e. absurd (false≢true e)), (λ e. absurd (let z : ◌≡◌ {A = ℕ} 0 1 = cc in omega arith)))
+is_at_decided m (Some l) r d = same_from_decides r (same_literal l m) d (Decides-like _ (λ e. ap (λ x. Some x) e) (λ e. cc) (decides_literal l m))
 
 -- e tells the literals that are the same as m
 pub is_at_where : (m : Literal) (e : Literal → Literal → Bool) → ((l : Literal) → e l m ≡ same_literal l m) → (o : Option Literal) → option_eq e o (Some m) ≡ is_at m o

@@ -1,7 +1,7 @@
 -- Each digit comes off the digits that are left; once a number is too large it stays so.
-use Rattle.std.proofs.Common.{◌+◌, ◌*◌, ◌≡◌, min, Some, get_or, drop, sym, ap, ◌∙◌, arith}
+use Rattle.std.proofs.Common.{◌+◌, ◌*◌, ◌≡◌, Some, get_or, drop, sym, ap, ◌∙◌, arith}
 use Rattle.words.specs.Words.{digit_below, capped}
-use Rattle.words.proofs.Numbers.{one_more, capped_alike, saturated}
+use Rattle.words.proofs.Numbers.{one_more, capped_alike}
 use Rattle.words.proofs.number.Goals as goal
 
 pub loop-b-preserved : goal.loop-b-preserved
@@ -11,11 +11,9 @@ loop-b-preserved c =
     let i = c.loop-b.b-index in
     let d = c.in_ok-d.d in
     let digit = digit_below base in
-    let product : c.saturating_mul.result ≡ min (n * base) 18446744073709551615 = c.saturating_mul.ensures ∙ ap (λ k. min (n * k) 18446744073709551615) c.from.ensures in
-    let sum : c.saturating_add-n.result ≡ min (c.saturating_mul.result + d) 18446744073709551615 = c.saturating_add-n.ensures ∙ ap (λ k. min (c.saturating_mul.result + k) 18446744073709551615) c.from-in-loop-b.ensures in
-    let is : Some d ≡ digit (get_or c.args.word.now i 0) = c.in_ok-d.ensures in (
-      capped_alike digit base _ (n * base + d) (drop (i + 1) c.args.word.now) c.requires (saturated (n * base) c.saturating_mul.result d _ product sum)
+    let is : Some d ≡ digit (get_or c.args.word.now i 0) = c.in_ok-d.ensures.digit in (
+      capped_alike digit base _ (n * base + d) (drop (i + 1) c.args.word.now) c.requires (omega (arith, c.with_digit-n.ensures))
           ∙ sym (ap capped (one_more digit base n c.args.word.now i 0 d c.loop-b-test.true is))
           ∙ c.loop-b.invariant.0,
-      omega (arith, c.saturating_add-n.ensures),
+      omega (arith, c.with_digit-n.ensures),
     )

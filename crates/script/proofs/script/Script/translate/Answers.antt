@@ -1,5 +1,5 @@
 -- Whatever the method wrote keeps the script sound.
-use Rattle.std.proofs.Common.{arith}
+use Rattle.std.proofs.Common.{Ok, arith}
 use Rattle.table.specs.Kept.{ways_of}
 use Rattle.script.proofs.Soundness.{settled_sound}
 use Rattle.script.proofs.script.Script.translate.Goals as goal
@@ -12,5 +12,5 @@ invariant_of-self-2 c =
       room = c.translate.new.draft.room;
       within = omega (arith, settled.translated.grown.within);
       bounded = self.bounded;
-      sound = settled_sound c.args.method (ways_of c.args.table.now.ways.now) c.args.work.now c.translate.new.work c.in_ok-answer.answer self.sound settled;
+      sound = settled_sound c.args.method (ways_of c.args.table.now.ways.now) c.args.work.now c.translate.new.work (Ok c.in_ok-answer.answer) self.sound settled;
     }
