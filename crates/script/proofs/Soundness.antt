@@ -1,7 +1,7 @@
 -- A script is sound when it is opened, and every accepted call keeps it so.
-use Rattle.std.proofs.Common.{◌≡◌, ℕ, Bool, true, false, ltb, leb, List, [], length, take, Some, None, Ok, Err, Option, Result, sym, refl, subst, arith}
+use Rattle.std.proofs.Common.{◌≡◌, ℕ, Bool, true, false, ltb, leb, List, [], length, take, is_ok, Some, None, Ok, Err, Option, Result, sym, refl, subst, arith}
 use mathlib.Core.Logic.{∥∥₁_map}
-use Rattle.std.proofs.lemmas.Bool.{and_parts, ltb-true, leb-true}
+use Rattle.std.proofs.lemmas.Bool.{and_parts, ltb-true, leb-true, false≢true}
 use Rattle.rack.specs.declared.refusal.Refusal.{Refusal}
 use Rattle.rack.specs.Way.{Way}
 use Rattle.table.specs.Kept.{kept}
@@ -12,6 +12,7 @@ use Rattle.definitions.specs.declared.operand.Definition.{Definition}
 use Rattle.definitions.specs.Combine.{State, choose, combining}
 use Rattle.definitions.specs.Sound.{Legal, Sound}
 use Rattle.definitions.specs.declared.draft.Draft.{Draft}
+use Rattle.definitions.specs.declared.draft.LimitReached.{LimitReached}
 use Rattle.definitions.specs.Writing.{written_in, Wrote}
 use Rattle.working.specs.declared.record.WorkingRecord.{WorkingRecord}
 use Rattle.working.specs.Gather.{needed}
@@ -43,6 +44,11 @@ pub combined_sound : {was after : Draft} (o : Operator) (a b x : Operand) → �
 combined_sound {was} {after} o a b x sound ka kb w =
     let ds = written_in was in
     ∥∥₁_map sound (λ h. (combine_sound was.limit o a b ds (record { answer = x; all = written_in after }) h (known_legal (length ds) a ka) (known_legal (length ds) b kb) (sym w.answer)).1)
+
+-- the same of an answer that is known to be one
+pub ran_sound : {was after : Draft} (o : Operator) (a b : Operand) (r : Result Operand LimitReached) → is_ok r ≡ true → ∥ Sound (written_in was) ∥₁ → known (length (written_in was)) a ≡ true → known (length (written_in was)) b ≡ true → Wrote was after r (combining was.limit o a b) → ∥ Sound (written_in after) ∥₁
+ran_sound o a b (Ok x) e sound ka kb w = combined_sound o a b x sound ka kb w
+ran_sound o a b (Err l) e sound ka kb w = absurd (false≢true e)
 
 -- the definitions in front are as they were
 pub same_sound : (s t : List Definition) (n : ℕ) → ∥ Sound (take n s) ∥₁ → take n t ≡ take n s → ∥ Sound (take n t) ∥₁

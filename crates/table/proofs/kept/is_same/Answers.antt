@@ -16,11 +16,11 @@ returns-then-way-other c =
     let first = YieldsList-at c.zip.ensures.first (YieldsList-from_slice w (cc)) in
     let second = YieldsList-from_slice v c.zip.ensures.second.0 in
     all_from_yields_List (λ (p : Literal × Literal). same_literal p.0 p.1) c.all.new.self _ c.all.result c.all.ensures.ran (YieldsList-from_zip first second) (λ x b q k. search (rules, tests, decides_literal))
-    ∙ same_places w v c.if-way-other.true
+    ∙ same_places w v (omega (arith, c.if-way-other.true))
 
 pub returns-else-way-other : goal.returns-else-way-other
 returns-else-way-other c =
     let w = c.args.way.now in
     let v = c.args.other.now in
     let no : nat_eq (length w) (length v) ≡ false = let ne = c.if-way-other.false in grind arith in
-    no ∙ sym (longer w v c.if-way-other.false)
+    no ∙ sym (longer w v (λ e. c.if-way-other.false (omega (arith, e))))
